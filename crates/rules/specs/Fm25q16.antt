@@ -1,0 +1,112 @@
+-- The FM25Q16 of source document 001: document 01's tables, line by line.
+use Prim.Native.Nat.{ℕ, _*_, _-_, _/_, _%_}
+use mathlib.Core.Bool.{Bool, _||_}
+use mathlib.Core.List.{List, [], _∷_}
+use lib.ListN.{length, getD}
+use Rattle.lists.specs.Choice.{if_then_else_, _=?_}
+use Rattle.rules.specs.declared.EraseUnit.the-variants.{Sector, Block32, Block64, Chip}
+use Rattle.rules.specs.declared.Write.the-variants.{Program, Erase, WriteStatus}
+use Rattle.rules.specs.declared.Kind.the-variants.{WriteEnable, WriteDisable, ReadStatusLow, ReadStatusHigh, Read, FastRead, Sleep, Wake, ReadMakerDevice, ReadJedec, Writes}
+use Rattle.rules.specs.declared.Regs.{Regs}
+use Rattle.rules.specs.Status.{bitAt, settingOf, withSetting, withSrp0, withSrp1, withQe}
+use Rattle.rules.specs.Part.{Part, Row, row, exactly, either, orMore, none, any}
+
+abbrev pub fmSize : ℕ
+fmSize = 2097152
+
+-- 01, "What a transaction does": command, bytes n; and the sentence on leftover bits
+unfoldable pub fmCommands : List Row
+fmCommands =
+    row 0x06 WriteEnable (exactly 1) none
+    ∷ row 0x04 WriteDisable (exactly 1) none
+    ∷ row 0x05 ReadStatusLow (orMore 1) any
+    ∷ row 0x35 ReadStatusHigh (orMore 1) any
+    ∷ row 0x01 (Writes WriteStatus) (either 2 3) none
+    ∷ row 0x03 Read (orMore 4) any
+    ∷ row 0x0B FastRead (orMore 5) any
+    ∷ row 0x02 (Writes Program) (orMore 5) none
+    ∷ row 0x20 (Writes (Erase Sector)) (exactly 4) none
+    ∷ row 0x52 (Writes (Erase Block32)) (exactly 4) none
+    ∷ row 0xD8 (Writes (Erase Block64)) (exactly 4) none
+    ∷ row 0xC7 (Writes (Erase Chip)) (exactly 1) none
+    ∷ row 0x60 (Writes (Erase Chip)) (exactly 1) none
+    ∷ row 0xB9 Sleep (exactly 1) none
+    ∷ row 0xAB Wake (orMore 1) any
+    ∷ row 0x90 ReadMakerDevice (orMore 4) any
+    ∷ row 0x9F ReadJedec (orMore 1) any
+    ∷ []
+
+-- 01, Verdicts: "11 asleep and not AB"
+unfoldable pub fmHeardAsleep : ℕ → Bool
+fmHeardAsleep op = op =? 0xAB
+
+-- .. "10 busy and neither 05 nor 35"
+unfoldable pub fmHeardBusy : ℕ → Bool
+fmHeardBusy op = (op =? 0x05) || (op =? 0x35)
+
+abbrev kb : ℕ
+kb = 1024
+
+-- 01, the table of protection: a place for each BP 0 to 7, where SEC is 0
+unfoldable pub fmSec0 : List ℕ
+fmSec0 = 0 ∷ 64 * kb ∷ 128 * kb ∷ 256 * kb ∷ 512 * kb ∷ 1024 * kb ∷ fmSize ∷ fmSize ∷ []
+
+-- .. and where SEC is 1
+unfoldable pub fmSec1 : List ℕ
+fmSec1 = 0 ∷ 4 * kb ∷ 8 * kb ∷ 16 * kb ∷ 32 * kb ∷ 32 * kb ∷ fmSize ∷ fmSize ∷ []
+
+-- a setting is S6..S2: SEC, TB, BP2, BP1, BP0
+abbrev pub fmBp : ℕ → ℕ
+fmBp s = s % 8
+
+abbrev pub fmTb : ℕ → ℕ
+fmTb s = s / 8 % 2
+
+abbrev pub fmSec : ℕ → ℕ
+fmSec s = s / 16 % 2
+
+-- how many bytes a setting protects
+unfoldable pub fmArea : ℕ → ℕ
+fmArea s = if fmSec s =? 0 then getD fmSec0 (fmBp s) 0 else getD fmSec1 (fmBp s) 0
+
+-- the area lies at the top where TB is 0, at the bottom where TB is 1
+unfoldable pub fmLo : ℕ → ℕ
+fmLo s = if fmTb s =? 0 then fmSize - fmArea s else 0
+
+unfoldable pub fmHi : ℕ → ℕ
+fmHi s = if fmTb s =? 0 then fmSize else fmArea s
+
+-- 01, "Write status": "the first byte's bits 7 to 2 go to S7 to S2"
+unfoldable pub fmFirst : Regs → ℕ → Regs
+fmFirst r b = withSrp0 (withSetting r (settingOf b)) (bitAt 128 b)
+
+-- .. "a second byte's bits 1 and 0 go to S9 and S8"
+unfoldable pub fmSecond : Regs → ℕ → Regs
+fmSecond r b = withQe (withSrp1 r (bitAt 1 b)) (bitAt 2 b)
+
+-- .. "a one-byte write keeps S9 and S8"; b are the bytes of the transaction, 01 first
+unfoldable pub fmStatusWritten : Regs → List ℕ → Regs
+fmStatusWritten r b =
+    if length b =? 3 then fmSecond (fmFirst r (getD b 1 0)) (getD b 2 0) else fmFirst r (getD b 1 0)
+
+-- 01, "Jobs and tapes": a guard sends "four times the setting, 00"
+unfoldable pub fmGuardBytes : ℕ → List ℕ
+fmGuardBytes s = 4 * s ∷ 0x00 ∷ []
+
+-- the identification bytes are those of 001, 11.2.1
+unfoldable pub fm25q16 : Part
+fm25q16 =
+    record {
+      size = fmSize;
+      statusEnd = 1024;
+      commands = fmCommands;
+      heardAsleep = fmHeardAsleep;
+      heardBusy = fmHeardBusy;
+      lo = fmLo;
+      hi = fmHi;
+      maker = 0xF8;
+      device = 0x14;
+      jedec = 0xF8 ∷ 0x32 ∷ 0x15 ∷ [];
+      statusWritten = fmStatusWritten;
+      guardBytes = fmGuardBytes;
+    }

@@ -1,0 +1,53 @@
+-- When we turn a caller away: the checks that several entries share. Document 01's table, and the order beneath it.
+-- A refusal of number 0 is none.
+use Prim.Native.Nat.{ℕ}
+use mathlib.Core.Bool.{Bool, not}
+use Rattle.lists.specs.Choice.{if_then_else_, _=?_, _<?_}
+use Rattle.lists.specs.declared.Found.{Found}
+use Rattle.lists.specs.declared.Found.the-variants.{At, Nothing}
+use Rattle.rules.specs.declared.Kept.{Kept}
+use Rattle.rules.specs.declared.Meter.{Meter}
+use Rattle.rules.specs.declared.Refusal.{Refusal}
+use Rattle.rules.specs.Part.{Part}
+use Rattle.rules.specs.Parts.{isPart, partOf}
+use Rattle.rules.specs.Status.{wellFormed}
+use Rattle.rules.specs.Counts.{room}
+
+-- a refusal without an index
+abbrev pub refusal : ℕ → Refusal
+refusal n = record { number = n; index = 0 }
+
+-- a refusal of the record at an index
+abbrev pub refusalAt : ℕ → ℕ → Refusal
+refusalAt n i = record { number = n; index = i }
+
+abbrev pub accepted : Refusal → Bool
+accepted z = z .number =? 0
+
+infixr 5 _orElse_
+-- the first refusal, and where there is none the second
+unfoldable pub _orElse_ : Refusal → Refusal → Refusal
+z orElse y = if accepted z then y else z
+
+-- "transaction over 4,096 bytes"
+abbrev pub transactionLimit : ℕ
+transactionLimit = 4096
+
+-- "a transaction checks 1 to 7 in order": array of al bytes, n bytes with x leftover bits, output of ol bytes
+unfoldable pub transactRefusal : ℕ → ℕ → Kept → ℕ → ℕ → ℕ → Meter → Refusal
+transactRefusal part al kept n x ol m =
+    if not (isPart part) then refusal 1 else
+    if not (al =? partOf part .size) then refusal 2 else
+    if not (wellFormed (partOf part .statusEnd) kept) then refusal 3 else
+    if transactionLimit <? n then refusal 4 else
+    if 7 <? x then refusal 5 else
+    if ol <? n then refusal 6 else
+    if not (room m 1) then refusal 7 else
+    refusal 0
+
+-- "finish and power cycle only 1 and 3"
+unfoldable pub eventRefusal : ℕ → Kept → Refusal
+eventRefusal part kept =
+    if not (isPart part) then refusal 1 else
+    if not (wellFormed (partOf part .statusEnd) kept) then refusal 3 else
+    refusal 0

@@ -1,0 +1,90 @@
+-- The registers: 16 status bits, and awake or asleep. Document 01, "Status bits and protection".
+-- S0 BUSY, S1 WEL, S2 to S6 the setting, S7 SRP0, S8 SRP1, S9 QE; S10 to S15 are 0.
+use Prim.Native.Nat.{ℕ, _+_, _*_, _/_, _%_}
+use mathlib.Core.Bool.{Bool, true, false, not, _&&_, _||_}
+use Rattle.lists.specs.Choice.{_=?_, _<?_, _≤?_}
+use Rattle.rules.specs.declared.Kept.{Kept}
+use Rattle.rules.specs.declared.Regs.{Regs}
+
+-- ---- the bits taken apart, and put together
+
+-- bit k of a word stands at its weight, 2 to the k
+abbrev pub bitAt : ℕ → ℕ → Bool
+bitAt weight w = w / weight % 2 =? 1
+
+-- the setting is S6..S2 read as a number 0 to 31
+abbrev pub settingOf : ℕ → ℕ
+settingOf w = w / 4 % 32
+
+unfoldable pub regsOf : Kept → Regs
+regsOf k =
+    record {
+      busy = bitAt 1 (k .status);
+      wel = bitAt 2 (k .status);
+      setting = settingOf (k .status);
+      srp0 = bitAt 128 (k .status);
+      srp1 = bitAt 256 (k .status);
+      qe = bitAt 512 (k .status);
+      awake = k .awake =? 1;
+    }
+
+abbrev pub flag : Bool → ℕ
+flag true = 1
+flag false = 0
+
+unfoldable pub statusOf : Regs → ℕ
+statusOf r =
+    flag (r .busy) * 1
+    + flag (r .wel) * 2
+    + r .setting * 4
+    + flag (r .srp0) * 128
+    + flag (r .srp1) * 256
+    + flag (r .qe) * 512
+
+unfoldable pub keptOf : Regs → Kept
+keptOf r = record { status = statusOf r; awake = flag (r .awake) }
+
+-- S7 to S0, and S15 to S8
+unfoldable pub lowByte : Regs → ℕ
+lowByte r = statusOf r % 256
+
+unfoldable pub highByte : Regs → ℕ
+highByte r = statusOf r / 256
+
+-- ---- refusal 3
+
+-- one test implies another
+abbrev pub implies : Bool → Bool → Bool
+implies s t = not s || t
+
+-- "well formed when S10 to S15 are 0, BUSY implies WEL, and BUSY implies awake": the status ends where the chip's does,
+-- which also keeps out one of more than 16 bits; an awake over 1 is no register either
+unfoldable pub wellFormed : ℕ → Kept → Bool
+wellFormed statusEnd k =
+    (k .status <? statusEnd)
+    && (k .awake ≤? 1)
+    && implies (bitAt 1 (k .status)) (bitAt 2 (k .status))
+    && implies (bitAt 1 (k .status)) (k .awake =? 1)
+
+-- ---- one register set, the others as they are: no rule writes the record out
+
+abbrev pub withBusy : Regs → Bool → Regs
+withBusy r b = record { busy = b; wel = r .wel; setting = r .setting; srp0 = r .srp0; srp1 = r .srp1; qe = r .qe; awake = r .awake }
+
+abbrev pub withWel : Regs → Bool → Regs
+withWel r b = record { busy = r .busy; wel = b; setting = r .setting; srp0 = r .srp0; srp1 = r .srp1; qe = r .qe; awake = r .awake }
+
+abbrev pub withSetting : Regs → ℕ → Regs
+withSetting r s = record { busy = r .busy; wel = r .wel; setting = s; srp0 = r .srp0; srp1 = r .srp1; qe = r .qe; awake = r .awake }
+
+abbrev pub withSrp0 : Regs → Bool → Regs
+withSrp0 r b = record { busy = r .busy; wel = r .wel; setting = r .setting; srp0 = b; srp1 = r .srp1; qe = r .qe; awake = r .awake }
+
+abbrev pub withSrp1 : Regs → Bool → Regs
+withSrp1 r b = record { busy = r .busy; wel = r .wel; setting = r .setting; srp0 = r .srp0; srp1 = b; qe = r .qe; awake = r .awake }
+
+abbrev pub withQe : Regs → Bool → Regs
+withQe r b = record { busy = r .busy; wel = r .wel; setting = r .setting; srp0 = r .srp0; srp1 = r .srp1; qe = b; awake = r .awake }
+
+abbrev pub withAwake : Regs → Bool → Regs
+withAwake r b = record { busy = r .busy; wel = r .wel; setting = r .setting; srp0 = r .srp0; srp1 = r .srp1; qe = r .qe; awake = b }

@@ -1,0 +1,156 @@
+-- A tape's bytes, record by record. Document 01, "Jobs and tapes" and refusals 30 and 31.
+use Prim.Native.Nat.{ℕ, zero, suc, _+_, _-_, _*_, _/_, _%_}
+use mathlib.Core.Bool.{Bool, true, false, not, _&&_, _||_}
+use mathlib.Core.List.{List, [], _∷_, _++_}
+use lib.ListN.{length, getD, take, drop, replicate}
+use Rattle.lists.specs.Choice.{if_then_else_, _=?_, _≤?_}
+use Rattle.lists.specs.Places.{everyIn, firstIn}
+use Rattle.lists.specs.declared.Found.{Found}
+use Rattle.rules.specs.declared.AtPlace.{AtPlace}
+use Rattle.rules.specs.declared.AtPlace.the-variants.{Transaction, Finish, PowerCycle, End, Fault}
+use Rattle.rules.specs.declared.Sent.{Sent}
+use Rattle.rules.specs.Status.{flag}
+
+-- what a record says
+pub data Rec : Type 0 where
+  -- the bytes, the leftover bits, and whether /WP is high
+  transaction : List ℕ → ℕ → Bool → Rec
+  finish : Rec
+  powerCycle : Rec
+
+-- "records of 264 bytes": four head bytes, then at most 260
+abbrev pub recordLength : ℕ
+recordLength = 264
+
+abbrev pub headLength : ℕ
+headLength = 4
+
+abbrev pub sentLimit : ℕ
+sentLimit = 260
+
+-- ---- record p of a tape t
+
+-- byte i of record p
+abbrev pub byteAt : List ℕ → ℕ → ℕ → ℕ
+byteAt t p i = getD t (recordLength * p + i) 0
+
+-- "0 and 1 the length, big-endian; 2 the kind; 3 the leftover bits, plus 8 where /WP is high"
+abbrev pub lengthAt : List ℕ → ℕ → ℕ
+lengthAt t p = byteAt t p 0 * 256 + byteAt t p 1
+
+abbrev pub kindAt : List ℕ → ℕ → ℕ
+kindAt t p = byteAt t p 2
+
+abbrev pub bitsAt : List ℕ → ℕ → ℕ
+bitsAt t p = byteAt t p 3
+
+-- "then the bytes"
+abbrev pub bytesStart : ℕ → ℕ
+bytesStart p = recordLength * p + headLength
+
+abbrev pub leftoverOf : ℕ → ℕ
+leftoverOf bits = bits % 8
+
+abbrev pub highOf : ℕ → Bool
+highOf bits = 8 ≤? bits
+
+unfoldable pub recAt : List ℕ → ℕ → Rec
+recAt t p =
+    if kindAt t p =? 0 then transaction (take (lengthAt t p) (drop (bytesStart p) t)) (leftoverOf (bitsAt t p)) (highOf (bitsAt t p)) else
+    if kindAt t p =? 1 then finish else
+    powerCycle
+
+-- n records from record p on
+unfoldable pub recsFrom : List ℕ → ℕ → ℕ → List Rec
+recsFrom t p zero = []
+recsFrom t p (suc n) = recAt t p ∷ recsFrom t (suc p) n
+
+-- how many records a tape has
+abbrev pub records : List ℕ → ℕ
+records t = length t / recordLength
+
+-- all of them
+abbrev pub recsOf : List ℕ → List Rec
+recsOf t = recsFrom t 0 (records t)
+
+-- ---- faults
+
+-- not 30
+abbrev pub whole : List ℕ → Bool
+whole t = length t % recordLength =? 0
+
+abbrev pub isZero : List ℕ → ℕ → Bool
+isZero t x = getD t x 0 =? 0
+
+-- not 31: "length over 260, kind over 2, byte 3 over 15, a byte after its length not 0, or kind 1 or 2 with anything else not 0"
+unfoldable pub goodRecord : List ℕ → ℕ → Bool
+goodRecord t p =
+    (lengthAt t p ≤? sentLimit)
+    && (kindAt t p ≤? 2)
+    && (bitsAt t p ≤? 15)
+    && everyIn (isZero t) (bytesStart p + lengthAt t p) (sentLimit - lengthAt t p)
+    && ((kindAt t p =? 0) || (lengthAt t p =? 0) && (bitsAt t p =? 0))
+
+-- the first bad record
+unfoldable pub firstBad : List ℕ → Found
+firstBad t = firstIn (λ p. not (goodRecord t p)) 0 (records t)
+
+-- ---- a read at place p
+
+abbrev pub sentAt : List ℕ → ℕ → Sent
+sentAt t p = record { start = bytesStart p; length = lengthAt t p; leftover = leftoverOf (bitsAt t p); high = highOf (bitsAt t p) }
+
+unfoldable pub readAt : List ℕ → ℕ → AtPlace
+readAt t p =
+    if not (whole t) then Fault 30 else
+    if records t ≤? p then End else
+    if not (goodRecord t p) then Fault 31 else
+    if kindAt t p =? 0 then Transaction (sentAt t p) else
+    if kindAt t p =? 1 then Finish else
+    PowerCycle
+
+-- "a record moves the place by one, the end and a fault leave it"
+abbrev pub nextPlace : ℕ → AtPlace → ℕ
+nextPlace p (Transaction s) = p + 1
+nextPlace p Finish = p + 1
+nextPlace p PowerCycle = p + 1
+nextPlace p End = p
+nextPlace p (Fault n) = p
+
+-- the paper's kind, number and values; 3 is the end and 4 a fault
+pub record ReadTold : Type 0 where
+  pub kind : ℕ
+  pub number : ℕ
+  pub length : ℕ
+  pub leftover : ℕ
+  pub wp : ℕ
+  pub start : ℕ
+  pub next : ℕ
+
+-- an answer that is no transaction
+abbrev pub plainTold : ℕ → ℕ → ℕ → ReadTold
+plainTold kind number next = record { kind = kind; number = number; length = 0; leftover = 0; wp = 0; start = 0; next = next }
+
+abbrev pub readTold : ℕ → AtPlace → ReadTold
+readTold p (Transaction s) =
+    record { kind = 0; number = 0; length = s .length; leftover = s .leftover; wp = flag (s .high); start = s .start; next = p + 1 }
+readTold p Finish = plainTold 1 0 (p + 1)
+readTold p PowerCycle = plainTold 2 0 (p + 1)
+readTold p End = plainTold 3 0 p
+readTold p (Fault n) = plainTold 4 n p
+
+-- the entry `read`: nothing that is lent changes, so the answer is all that a caller sees
+unfoldable pub readOf : List ℕ → ℕ → ReadTold
+readOf t p = readTold p (readAt t p)
+
+-- ---- a record written
+
+unfoldable pub encodeRec : Rec → List ℕ
+encodeRec (transaction b x high) =
+    length b / 256 ∷ length b % 256 ∷ 0 ∷ (x + flag high * 8) ∷ b ++ replicate (sentLimit - length b) 0
+encodeRec finish = 0 ∷ 0 ∷ 1 ∷ 0 ∷ replicate sentLimit 0
+encodeRec powerCycle = 0 ∷ 0 ∷ 2 ∷ 0 ∷ replicate sentLimit 0
+
+unfoldable pub encode : List Rec → List ℕ
+encode [] = []
+encode (r ∷ rs) = encodeRec r ++ encode rs
