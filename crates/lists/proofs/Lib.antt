@@ -1,0 +1,4 @@
+pub mod Choice
+pub mod Tabulate
+pub mod Patched
+pub mod Search
