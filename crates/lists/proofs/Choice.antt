@@ -24,6 +24,10 @@ pub both-true : (s t : Bool) → (s && t) ≡ true → (s ≡ true) × (t ≡ tr
 both-true true t e = (refl, e)
 both-true false t e = let z : _≡_ {A = ℕ} 0 1 = cc in absurd (omega arith)
 
+pub and-true : (t : Bool) → (t && true) ≡ t
+and-true true = refl
+and-true false = refl
+
 pub both-left : (s t : Bool) → s ≡ false → (s && t) ≡ false
 both-left s t e = rw e
 

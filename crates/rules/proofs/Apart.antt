@@ -45,7 +45,7 @@ apart told back h a b e = sym (h a) ∙ ap back e ∙ h b
 -- ---- kinds and verdicts
 
 -- the code of a kind says that kind to the FM25Q16
-code-back : (k : Kind) → commandIn fmCommands (codeOf k) ≡ Known k
+pub code-back : (k : Kind) → commandIn fmCommands (codeOf k) ≡ Known k
 unfolding commandIn fmCommands if_then_else_
 code-back WriteEnable = refl
 code-back WriteDisable = refl

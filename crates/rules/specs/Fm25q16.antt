@@ -8,7 +8,7 @@ use Rattle.rules.specs.declared.EraseUnit.the-variants.{Sector, Block32,
 use Rattle.rules.specs.declared.Write.the-variants.{Program, Erase, WriteStatus}
 use Rattle.rules.specs.declared.Kind.the-variants.{WriteEnable, WriteDisable, ReadStatusLow, ReadStatusHigh, Read, FastRead, Sleep, Wake, ReadMakerDevice, ReadJedec, Writes}
 use Rattle.rules.specs.declared.Regs.{Regs}
-use Rattle.rules.specs.Status.{bitAt, settingOf, withSetting, withSrp0, withSrp1, withQe}
+use Rattle.rules.specs.Status.{bit0, bitAt, settingOf, withSetting, withSrp0, withSrp1, withQe}
 use Rattle.rules.specs.Part.{Part, Row, row, exactly, either, orMore, none, any}
 
 abbrev pub fmSize : ℕ
@@ -82,7 +82,7 @@ fmFirst r b = withSrp0 (withSetting r (settingOf b)) (bitAt 128 b)
 
 -- .. "a second byte's bits 1 and 0 go to S9 and S8"
 unfoldable pub fmSecond : Regs → ℕ → Regs
-fmSecond r b = withQe (withSrp1 r (bitAt 1 b)) (bitAt 2 b)
+fmSecond r b = withQe (withSrp1 r (bit0 b)) (bitAt 2 b)
 
 -- .. "a one-byte write keeps S9 and S8"; b are the bytes of the transaction, 01 first
 unfoldable pub fmStatusWritten : Regs → List ℕ → Regs

@@ -8,6 +8,10 @@ use Rattle.rules.specs.declared.Regs.{Regs}
 
 -- ---- the bits taken apart, and put together
 
+-- bit 0 of a word
+abbrev pub bit0 : ℕ → Bool
+bit0 w = w % 2 =? 1
+
 -- bit k of a word stands at its weight, 2 to the k
 abbrev pub bitAt : ℕ → ℕ → Bool
 bitAt weight w = w / weight % 2 =? 1
@@ -19,7 +23,7 @@ settingOf w = w / 4 % 32
 unfoldable pub regsOf : Kept → Regs
 regsOf k =
     record {
-      busy = bitAt 1 (k .status);
+      busy = bit0 (k .status);
       wel = bitAt 2 (k .status);
       setting = settingOf (k .status);
       srp0 = bitAt 128 (k .status);
@@ -34,7 +38,7 @@ flag false = 0
 
 unfoldable pub statusOf : Regs → ℕ
 statusOf r =
-    flag (r .busy) * 1
+    flag (r .busy)
     + flag (r .wel) * 2
     + r .setting * 4
     + flag (r .srp0) * 128
@@ -63,8 +67,8 @@ unfoldable pub wellFormed : ℕ → Kept → Bool
 wellFormed statusEnd k =
     (k .status <? statusEnd)
     && (k .awake ≤? 1)
-    && implies (bitAt 1 (k .status)) (bitAt 2 (k .status))
-    && implies (bitAt 1 (k .status)) (k .awake =? 1)
+    && implies (bit0 (k .status)) (bitAt 2 (k .status))
+    && implies (bit0 (k .status)) (k .awake =? 1)
 
 -- ---- one register set, the others as they are: no rule writes the record out
 

@@ -1,0 +1,3 @@
+pub mod NoWrite
+pub mod Protection
+pub mod Sound

@@ -1,0 +1,1 @@
+// What the crates above use in place of the definitions' text: laws, and no function.
