@@ -1,5 +1,18 @@
-// What a search among places answers. The rest of this crate is definitions and laws.
+// What a search among places answers, and the byte at a place. The rest of this crate is definitions and laws.
+ghost use mathlib.Core.Path.{_≡_};
+ghost use lib.ListN.{getD};
+
 pub enum Found {
     At(usize),
     Nothing,
+}
+
+// The byte at a place, 0 past the end.
+pub fn byte_at(b: &[u8], i: usize) -> u8
+    ensures { λ r. ⌜ r ≡ getD (now (b .entry)) i 0 ⌝ }
+{
+    if i < b.len() {
+        return b[i];
+    }
+    0
 }

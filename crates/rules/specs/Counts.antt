@@ -19,7 +19,7 @@ counted m Program = record { programs = m .programs + 1; erases = m .erases; wri
 counted m (Erase u) = record { programs = m .programs; erases = m .erases + 1; writes = m .writes; ignored = m .ignored }
 counted m WriteStatus = record { programs = m .programs; erases = m .erases; writes = m .writes + 1; ignored = m .ignored }
 
--- "verdicts 10 to 16 add one to ignored; nothing else counts"
+-- "verdicts 10 to 16 add one to ignored"; "nothing else counts"
 abbrev pub meterAfter : Meter → Verdict → Meter
 meterAfter m (CarriedOut k) = ofWrite k m (counted m)
 meterAfter m (Ignored w) = record { programs = m .programs; erases = m .erases; writes = m .writes; ignored = m .ignored + 1 }

@@ -21,5 +21,6 @@ pub mod Job
 pub mod JobRefusals
 pub mod Records
 pub mod Translate
+pub mod Ready
 pub mod Listing
 pub mod Bench

@@ -34,7 +34,7 @@ sentLimit = 260
 abbrev pub byteAt : List ℕ → ℕ → ℕ → ℕ
 byteAt t p i = getD t (recordLength * p + i) 0
 
--- "0 and 1 the length, big-endian; 2 the kind; 3 the leftover bits, plus 8 where /WP is high"
+-- 0 and 1 the length, big-endian; 2 the kind; 3 "the leftover bits, plus 8 where /WP is high"
 abbrev pub lengthAt : List ℕ → ℕ → ℕ
 lengthAt t p = byteAt t p 0 * 256 + byteAt t p 1
 
@@ -54,6 +54,7 @@ leftoverOf bits = bits % 8
 abbrev pub highOf : ℕ → Bool
 highOf bits = 8 ≤? bits
 
+-- what record p says, of a tape that 30 and 31 let pass
 unfoldable pub recAt : List ℕ → ℕ → Rec
 recAt t p =
     if kindAt t p =? 0 then transaction (take (lengthAt t p) (drop (bytesStart p) t)) (leftoverOf (bitsAt t p)) (highOf (bitsAt t p)) else
@@ -133,11 +134,11 @@ plainTold kind number next = record { kind = kind; number = number; length = 0; 
 
 abbrev pub readTold : ℕ → AtPlace → ReadTold
 readTold p (Transaction s) =
-    record { kind = 0; number = 0; length = s .length; leftover = s .leftover; wp = flag (s .high); start = s .start; next = p + 1 }
-readTold p Finish = plainTold 1 0 (p + 1)
-readTold p PowerCycle = plainTold 2 0 (p + 1)
-readTold p End = plainTold 3 0 p
-readTold p (Fault n) = plainTold 4 n p
+    record { kind = 0; number = 0; length = s .length; leftover = s .leftover; wp = flag (s .high); start = s .start; next = nextPlace p (Transaction s) }
+readTold p Finish = plainTold 1 0 (nextPlace p Finish)
+readTold p PowerCycle = plainTold 2 0 (nextPlace p PowerCycle)
+readTold p End = plainTold 3 0 (nextPlace p End)
+readTold p (Fault n) = plainTold 4 n (nextPlace p (Fault n))
 
 -- the entry `read`: nothing that is lent changes, so the answer is all that a caller sees
 unfoldable pub readOf : List ℕ → ℕ → ReadTold

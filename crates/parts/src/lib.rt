@@ -1,0 +1,94 @@
+// What the code asks of a chip's description, by part number: a new chip is an arm in each of these, and no contract moves.
+use rules::Command;
+use rules::Regs;
+
+mod fm25q16;
+
+ghost use mathlib.Core.Path.{_≡_};
+ghost use lib.ListN.{getD};
+ghost use Rattle.rules.specs.Part.{commandOf, shaped};
+ghost use Rattle.rules.specs.Parts.{isPart, partOf};
+
+// Refusal 1.
+pub fn is_part(part: u32) -> bool
+    ensures { λ r. ⌜ r ≡ isPart part ⌝ }
+{
+    part == 1
+}
+
+pub fn size_of(part: u32) -> usize
+    ensures { λ r. ⌜ r ≡ partOf part .size ⌝ }
+{
+    fm25q16::SIZE
+}
+
+pub fn status_end(part: u32) -> u32
+    ensures { λ r. ⌜ r ≡ partOf part .statusEnd ⌝ }
+{
+    fm25q16::STATUS_END
+}
+
+pub fn command_of(part: u32, op: u8) -> Command
+    ensures { λ r. ⌜ r ≡ commandOf (partOf part) op ⌝ }
+{
+    fm25q16::command_of(op)
+}
+
+// n bytes and x leftover bits are right for the code.
+pub fn is_shaped(part: u32, op: u8, n: usize, x: u32) -> bool
+    ensures { λ r. ⌜ r ≡ shaped (partOf part) op n x ⌝ }
+{
+    fm25q16::is_shaped(op, n, x)
+}
+
+pub fn heard_asleep(part: u32, op: u8) -> bool
+    ensures { λ r. ⌜ r ≡ partOf part .heardAsleep op ⌝ }
+{
+    fm25q16::heard_asleep(op)
+}
+
+pub fn heard_busy(part: u32, op: u8) -> bool
+    ensures { λ r. ⌜ r ≡ partOf part .heardBusy op ⌝ }
+{
+    fm25q16::heard_busy(op)
+}
+
+// The protected bytes at a setting: from here ..
+pub fn area_lo(part: u32, s: u8) -> usize
+    ensures { λ r. ⌜ r ≡ partOf part .lo s ⌝ }
+{
+    fm25q16::lo(s)
+}
+
+// .. up to here.
+pub fn area_hi(part: u32, s: u8) -> usize
+    ensures { λ r. ⌜ r ≡ partOf part .hi s ⌝ }
+{
+    fm25q16::hi(s)
+}
+
+pub fn maker(part: u32) -> u8
+    ensures { λ r. ⌜ r ≡ partOf part .maker ⌝ }
+{
+    fm25q16::MAKER
+}
+
+pub fn device(part: u32) -> u8
+    ensures { λ r. ⌜ r ≡ partOf part .device ⌝ }
+{
+    fm25q16::DEVICE
+}
+
+// JEDEC byte j, FF past the last.
+pub fn jedec(part: u32, j: usize) -> u8
+    ensures { λ r. ⌜ r ≡ getD (partOf part .jedec) j 255 ⌝ }
+{
+    fm25q16::jedec(j)
+}
+
+// The registers after the bytes of a status write.
+pub fn status_written(part: u32, r: Regs, b: &[u8]) -> Regs
+    ensures { λ t. ⌜ t ≡ partOf part .statusWritten r (now (b .entry)) ⌝ }
+{
+    fm25q16::status_written(r, b)
+}
