@@ -1,0 +1,25 @@
+use Rattle.rules.specs.Verdict.{verdictOf}
+use borrow.Author.Needs.{needs}
+use Rattle.judge.proofs.verdict.Statement.{statement}
+use Rattle.judge.proofs.verdict.Tie as tie
+
+byte-at-requires : tie.Need-byte-at-requires
+byte-at-requires c κs = search needs
+
+command-of-requires : tie.Need-command-of-requires
+command-of-requires c κs = search needs
+
+address-of-requires : tie.Need-address-of-requires
+address-of-requires c κs = search needs
+
+judge-requires : tie.Need-judge-requires
+judge-requires c κs = search needs
+
+returns : tie.Need-returns
+unfolding verdictOf
+returns c = rw (← c .before .before .before .byte-at .ensures, ← c .before .address-of .ensures .0, ← c .before .before .command-of .ensures) (c .judge .ensures)
+
+pub verdict-spec : {M : Type 1} → statement M
+verdict-spec =
+    tie.close
+    (tie.spec byte-at-requires command-of-requires address-of-requires judge-requires returns)

@@ -1,0 +1,226 @@
+// Whether a command is carried out: document 01's tests, in its order.
+use lists::Found;
+use rules::Command;
+use rules::EraseUnit;
+use rules::Kind;
+use rules::Reason;
+use rules::Regs;
+use rules::Verdict;
+use rules::Write;
+ghost use mathlib.Core.Path.{_≡_};
+ghost use Prim.Native.Nat.{_+_, _≤_, _<_};
+ghost use lib.ListN.{length};
+ghost use Rattle.rules.specs.Parts.{partOf};
+ghost use Rattle.rules.specs.Units.{unitStart, unitLength};
+ghost use Rattle.rules.specs.Protection.{firstProtected};
+ghost use Rattle.rules.specs.Writes.{reachStart, reachLength, locked, lockedOut};
+ghost use Rattle.rules.specs.Verdict.{ignored, addressOf, asleep, held, protectionVerdict, writeVerdict, kindVerdict, judgeOf, verdictOf};
+
+// ---- where a write reaches
+
+pub fn unit_start(u: EraseUnit, a: usize) -> usize
+    ensures { λ r. ⌜ r ≡ unitStart u a ⌝ }
+{
+    match u {
+        EraseUnit::Sector => a / 4096 * 4096,
+        EraseUnit::Block32 => a / 32768 * 32768,
+        EraseUnit::Block64 => a / 65536 * 65536,
+        EraseUnit::Chip => 0,
+    }
+}
+
+pub fn unit_length(part: u32, u: EraseUnit) -> usize
+    ensures { λ r. ⌜ r ≡ unitLength (partOf part .size) u ⌝ }
+{
+    match u {
+        EraseUnit::Sector => 4096,
+        EraseUnit::Block32 => 32768,
+        EraseUnit::Block64 => 65536,
+        EraseUnit::Chip => parts::size_of(part),
+    }
+}
+
+fn reach_start(w: Write, a: usize) -> usize
+    ensures { λ r. ⌜ r ≡ reachStart w a ⌝ }
+{
+    match w {
+        Write::Program => a / 256 * 256,
+        Write::Erase(u) => unit_start(u, a),
+        Write::WriteStatus => 0,
+    }
+}
+
+fn reach_length(part: u32, w: Write) -> usize
+    ensures { λ r. ⌜ r ≡ reachLength (partOf part) w ⌝ }
+{
+    match w {
+        Write::Program => 256,
+        Write::Erase(u) => unit_length(part, u),
+        Write::WriteStatus => 0,
+    }
+}
+
+// The first protected byte among the n from a on, from the two ends of the area.
+pub fn first_protected(part: u32, s: u8, a: usize, n: usize) -> Found
+    requires { ⌜ a + n < 4294967296 ⌝ }
+    ensures { λ r. ⌜ r ≡ firstProtected (partOf part) s a n ⌝ }
+{
+    let lo = parts::area_lo(part, s);
+    let hi = parts::area_hi(part, s);
+    let mut from = a;
+    if a < lo {
+        from = lo;
+    }
+    let mut end = a + n;
+    if hi < end {
+        end = hi;
+    }
+    if from < end {
+        return Found::At(from);
+    }
+    Found::Nothing
+}
+
+// ---- the tests, each by itself
+
+// The only maker of an ignored verdict.
+pub fn ignore(number: u8) -> Verdict
+    ensures { λ v. ⌜ v ≡ ignored number ⌝ }
+{
+    Verdict::Ignored(Reason { number: number })
+}
+
+fn is_asleep(part: u32, r: Regs, op: u8) -> bool
+    ensures { λ t. ⌜ t ≡ asleep (partOf part) r op ⌝ }
+{
+    if r.awake {
+        return false;
+    }
+    !parts::heard_asleep(part, op)
+}
+
+fn is_held(part: u32, r: Regs, op: u8) -> bool
+    ensures { λ t. ⌜ t ≡ held (partOf part) r op ⌝ }
+{
+    if r.busy {
+        return !parts::heard_busy(part, op);
+    }
+    false
+}
+
+fn is_locked(r: Regs, high: bool) -> bool
+    ensures { λ t. ⌜ t ≡ locked r high ⌝ }
+{
+    if r.srp1 {
+        return true;
+    }
+    if r.srp0 {
+        if high {
+            return false;
+        }
+        return !r.qe;
+    }
+    false
+}
+
+fn is_locked_out(w: Write, r: Regs, high: bool) -> bool
+    ensures { λ t. ⌜ t ≡ lockedOut w r high ⌝ }
+{
+    match w {
+        Write::Program => false,
+        Write::Erase(_) => false,
+        Write::WriteStatus => is_locked(r, high),
+    }
+}
+
+// ---- the tests, one after the other
+
+// 16, or carried out.
+fn by_protection(k: Kind, found: Found) -> Verdict
+    ensures { λ v. ⌜ v ≡ protectionVerdict k found ⌝ }
+{
+    match found {
+        Found::At(_) => ignore(16),
+        Found::Nothing => Verdict::CarriedOut(k),
+    }
+}
+
+// 14, 15, 16, or carried out: a write of kind k at address a.
+fn judge_write(part: u32, r: Regs, high: bool, a: usize, k: Kind, w: Write) -> Verdict
+    requires { ⌜ a < partOf part .size ⌝ }
+    ensures { λ v. ⌜ v ≡ writeVerdict (partOf part) r high a k w ⌝ }
+{
+    if !r.wel {
+        return ignore(14);
+    }
+    if is_locked_out(w, r, high) {
+        return ignore(15);
+    }
+    let s = r.setting;
+    let found = first_protected(part, s, reach_start(w, a), reach_length(part, w));
+    by_protection(k, found)
+}
+
+// 13, or what the kind asks: n bytes and x leftover bits.
+fn judge_kind(
+    part: u32,
+    r: Regs,
+    n: usize,
+    x: u32,
+    high: bool,
+    op: u8,
+    a: usize,
+    k: Kind,
+) -> Verdict
+    requires { ⌜ a < partOf part .size ⌝ }
+    ensures { λ v. ⌜ v ≡ kindVerdict (partOf part) r n x high op a k ⌝ }
+{
+    if !parts::is_shaped(part, op, n, x) {
+        return ignore(13);
+    }
+    let Kind::Writes(w) = k else {
+        return Verdict::CarriedOut(k);
+    };
+    judge_write(part, r, high, a, k, w)
+}
+
+// 12, 11, 10, 12, or what a known command asks.
+fn judge(part: u32, r: Regs, n: usize, x: u32, high: bool, op: u8, a: usize, c: Command) -> Verdict
+    requires { ⌜ a < partOf part .size ⌝ }
+    ensures { λ v. ⌜ v ≡ judgeOf (partOf part) r n x high op a c ⌝ }
+{
+    if n == 0 {
+        return ignore(12);
+    }
+    if is_asleep(part, r, op) {
+        return ignore(11);
+    }
+    if is_held(part, r, op) {
+        return ignore(10);
+    }
+    let Command::Known(k) = c else {
+        return ignore(12);
+    };
+    judge_kind(part, r, n, x, high, op, a, k)
+}
+
+// ---- the verdict on the bytes of a transaction
+
+pub fn address_of(part: u32, b: &[u8]) -> usize
+    ensures { λ r. ⌜ (r ≡ addressOf (partOf part) (now (b .entry))) × (r < partOf part .size) ⌝ }
+{
+    let size = parts::size_of(part);
+    let b1 = lists::byte_at(b, 1) as usize;
+    let b2 = lists::byte_at(b, 2) as usize;
+    let b3 = lists::byte_at(b, 3) as usize;
+    (b1 * 65536 + b2 * 256 + b3) % size
+}
+
+pub fn verdict(part: u32, r: Regs, b: &[u8], x: u32, high: bool) -> Verdict
+    ensures { λ v. ⌜ v ≡ verdictOf (partOf part) r (now (b .entry)) x high ⌝ }
+{
+    let op = lists::byte_at(b, 0);
+    let c = parts::command_of(part, op);
+    let a = address_of(part, b);
+    judge(part, r, b.len(), x, high, op, a, c)
+}
