@@ -1,3 +1,4 @@
+pub mod Accepted
 pub mod NoWrite
 pub mod Protection
 pub mod Sound

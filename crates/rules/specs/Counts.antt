@@ -20,9 +20,12 @@ counted m (Erase u) = record { programs = m .programs; erases = m .erases + 1; w
 counted m WriteStatus = record { programs = m .programs; erases = m .erases; writes = m .writes + 1; ignored = m .ignored }
 
 -- "verdicts 10 to 16 add one to ignored"; "nothing else counts"
+abbrev pub ignoredCounted : Meter → Meter
+ignoredCounted m = record { programs = m .programs; erases = m .erases; writes = m .writes; ignored = m .ignored + 1 }
+
 abbrev pub meterAfter : Meter → Verdict → Meter
 meterAfter m (CarriedOut k) = ofWrite k m (counted m)
-meterAfter m (Ignored w) = record { programs = m .programs; erases = m .erases; writes = m .writes; ignored = m .ignored + 1 }
+meterAfter m (Ignored w) = ignoredCounted m
 
 -- no count plus n exceeds the limit
 unfoldable pub room : Meter → ℕ → Bool

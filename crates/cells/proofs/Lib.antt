@@ -1,0 +1,5 @@
+pub mod Front
+pub mod Lent
+pub mod Sent
+pub mod Unwrapped
+pub mod Wrapped

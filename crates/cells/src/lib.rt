@@ -1,0 +1,129 @@
+// What a program, an erase and a read do to the bytes that are lent to them.
+ghost use mathlib.Core.Path.{_≡_};
+ghost use Prim.Native.Nat.{_+_, _%_, _≤_, _<_};
+ghost use lib.Bits.{bitAnd};
+ghost use lib.ListN.{length, getD};
+ghost use Rattle.lists.specs.Choice.{if_then_else_, _=?_};
+ghost use Rattle.lists.specs.Places.{tabulate, patched};
+ghost use Rattle.rules.specs.Units.{page, pageStart};
+ghost use Rattle.rules.specs.Cells.{ff, programmed};
+ghost use Rattle.cells.specs.Page.{lastSent, programmedAt};
+
+// ---- one value, or two in turn, at every place
+
+// Each byte becomes v.
+pub fn fill(s: &mut [u8], v: u8)
+    ensures { λ _. ⌜ now (s .exit) ≡ tabulate (length (now (s .entry))) (λ j. v) ⌝ }
+{
+    let mut i = 0;
+    while i < s.len() {
+        s[i] = v;
+        i += 1;
+    }
+}
+
+// The bytes at even places become first, the others second.
+pub fn alternate(s: &mut [u8], first: u8, second: u8)
+    ensures { λ _. ⌜ now (s .exit) ≡ tabulate (length (now (s .entry))) (λ j. if j % 2 =? 0 then first else second) ⌝ }
+{
+    let mut i = 0;
+    while i < s.len() {
+        let v = if i % 2 == 0 { first } else { second };
+        s[i] = v;
+        i += 1;
+    }
+}
+
+// The n bytes from a on become FF.
+pub fn erase(array: &mut [u8], a: usize, n: usize)
+    requires { ⌜ a + n ≤ length (now array) ⌝ }
+    ensures { λ _. ⌜ now (array .exit) ≡ patched (now (array .entry)) a n ff ⌝ }
+{
+    let e = a + n;
+    fill(&mut array[a..e], 255);
+}
+
+// ---- programs
+
+// The last byte sent to each place of the page, FF where none is: FF leaves what it is ANDed into.
+fn latch(off: usize, bytes: &[u8]) -> [u8; 256]
+    requires { ⌜ (off < 256) × (length (now bytes) < 4294967296) ⌝ }
+    ensures { λ r. ⌜ r ≡ tabulate 256 (λ j. lastSent off (now (bytes .entry)) j 255) ⌝ }
+{
+    let mut buf = [255u8; 256];
+    let mut i = 0;
+    while i < bytes.len() {
+        let j = (off + i) % 256;
+        buf[j] = bytes[i];
+        i += 1;
+    }
+    buf
+}
+
+// Each byte of s becomes old AND new.
+fn and_in(s: &mut [u8], bytes: &[u8])
+    requires { ⌜ length (now s) ≡ length (now bytes) ⌝ }
+    ensures { λ _. ⌜ now (s .exit) ≡ tabulate (length (now (s .entry))) (λ j. bitAnd (getD (now (s .entry)) j 0) (getD (now (bytes .entry)) j 0)) ⌝ }
+{
+    let mut i = 0;
+    while i < s.len() {
+        s[i] = s[i] & bytes[i];
+        i += 1;
+    }
+}
+
+// The bytes go to the page from the offset on, and wrap inside it.
+pub fn program(page: &mut [u8], off: usize, bytes: &[u8])
+    requires { ⌜ (length (now page) ≡ 256) × (off < 256) × (length (now bytes) < 4294967296) ⌝ }
+    ensures { λ _. ⌜ now (page .exit) ≡ tabulate 256 (programmedAt (now (page .entry)) off (now (bytes .entry))) ⌝ }
+{
+    let end = off + bytes.len();
+    // Nothing wraps, so no place is sent twice.
+    if end <= 256 {
+        and_in(&mut page[off..end], bytes);
+        return;
+    }
+    let sent = latch(off, bytes);
+    and_in(page, &sent);
+}
+
+// The bytes go to the page of address a, from its offset on.
+pub fn program_at(array: &mut [u8], a: usize, bytes: &[u8])
+    requires { ⌜ (pageStart a + page ≤ length (now array)) × (length (now bytes) < 4294967296) ⌝ }
+    ensures { λ _. ⌜ now (array .exit) ≡ programmed (now (array .entry)) a (now (bytes .entry)) ⌝ }
+{
+    let base = a / 256 * 256;
+    let end = base + 256;
+    program(&mut array[base..end], a % 256, bytes);
+}
+
+// ---- reads
+
+// out becomes what from is.
+fn copy(out: &mut [u8], from: &[u8])
+    requires { ⌜ length (now out) ≡ length (now from) ⌝ }
+    ensures { λ _. ⌜ now (out .exit) ≡ now (from .entry) ⌝ }
+{
+    let mut i = 0;
+    while i < out.len() {
+        out[i] = from[i];
+        i += 1;
+    }
+}
+
+// out becomes the array's bytes from a on; after the array's last comes its first.
+pub fn copy_wrapped(out: &mut [u8], array: &[u8], a: usize)
+    requires { ⌜ (a < length (now array)) × (length (now out) ≤ length (now array)) × (length (now array) < 4294967296) ⌝ }
+    ensures { λ _. ⌜ now (out .exit) ≡ tabulate (length (now (out .entry))) (λ j. getD (now (array .entry)) ((a + j) % length (now (array .entry))) 0) ⌝ }
+{
+    let n = out.len();
+    let room = array.len() - a;
+    if n <= room {
+        let end = a + n;
+        copy(out, &array[a..end]);
+        return;
+    }
+    let rest = n - room;
+    copy(&mut out[0..room], &array[a..]);
+    copy(&mut out[room..], &array[0..rest]);
+}

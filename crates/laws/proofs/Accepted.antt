@@ -1,0 +1,66 @@
+-- What the absence of a refusal says, entry by entry; and what a served call answers.
+use mathlib.Core.Path.{_≡_, refl, sym, ap, _∙_}
+use mathlib.Core.Bool.{Bool, true, false, not, _&&_}
+use mathlib.Core.List.{List, _++_}
+use Prim.Native.Nat.{ℕ, _+_, _≤_, _<_}
+use native.Mathlib.Omega.{arith}
+use lib.ListN.{length}
+use borrow.Author.Tests.{ltb-false, eqb-true, leb-true, not-false, ne-eqb, eq-eqb}
+use Rattle.lists.specs.Choice.{if_then_else_, _=?_, _<?_, _≤?_}
+use Rattle.lists.proofs.Choice.{both-true}
+use Rattle.rules.specs.declared.Kept.{Kept}
+use Rattle.rules.specs.declared.Meter.{Meter}
+use Rattle.rules.specs.declared.Refusal.{Refusal}
+use Rattle.rules.specs.Parts.{isPart, partOf}
+use Rattle.rules.specs.Status.{wellFormed}
+use Rattle.rules.specs.Counts.{countLimit, room}
+use Rattle.rules.specs.Refusals.{refusal, transactionLimit, transactRefusal, eventRefusal}
+use Rattle.laws.specs.Room.{Room}
+
+-- a check that does not refuse was passed, and so were those after it
+pub passed : (t : Bool) (k : ℕ) (w : Refusal) → 0 < k → (if t then refusal k else w) .number ≡ 0 → (t ≡ false) × (w .number ≡ 0)
+unfolding if_then_else_
+passed true k w h e = absurd (omega arith)
+passed false k w h e = (refl, e)
+
+pub room-is : (m : Meter) (n : ℕ) → room m n ≡ true → Room m n
+unfolding room
+room-is m n e =
+    let p : Bool = m .programs + n ≤? countLimit in
+    let q : Bool = m .erases + n ≤? countLimit in
+    let r : Bool = m .writes + n ≤? countLimit in
+    let s : Bool = m .ignored + n ≤? countLimit in
+    let a = both-true (p && q && r) s e in
+    let b = both-true (p && q) r (a .0) in
+    let c = both-true p q (b .0) in
+    record { programs-fit = leb-true _ _ (c .0); erases-fit = leb-true _ _ (c .1); writes-fit = leb-true _ _ (b .1); ignored-fit = leb-true _ _ (a .1) }
+
+-- every check of a transaction
+pub record Taken (part al : ℕ) (kept : Kept) (n x ol : ℕ) (m : Meter) : Type 0 where
+  pub known : isPart part ≡ true
+  pub long : al ≡ partOf part .size
+  pub formed : wellFormed (partOf part .statusEnd) kept ≡ true
+  pub short : n ≤ transactionLimit
+  pub bits : x ≤ 7
+  pub fits : n ≤ ol
+  pub room : Room m 1
+
+pub taken : (part al : ℕ) (kept : Kept) (n x ol : ℕ) (m : Meter) → transactRefusal part al kept n x ol m .number ≡ 0 → Taken part al kept n x ol m
+unfolding transactRefusal
+taken part al kept n x ol m e =
+    let e1 = passed (not (isPart part)) 1 _ (omega arith) e in
+    let e2 = passed (not (al =? partOf part .size)) 2 _ (omega arith) (e1 .1) in
+    let e3 = passed (not (wellFormed (partOf part .statusEnd) kept)) 3 _ (omega arith) (e2 .1) in
+    let e4 = passed (transactionLimit <? n) 4 _ (omega arith) (e3 .1) in
+    let e5 = passed (7 <? x) 5 _ (omega arith) (e4 .1) in
+    let e6 = passed (ol <? n) 6 _ (omega arith) (e5 .1) in
+    let e7 = passed (not (room m 1)) 7 _ (omega arith) (e6 .1) in
+    record {
+      known = not-false _ (e1 .0);
+      long = eqb-true _ _ (not-false _ (e2 .0));
+      formed = not-false _ (e3 .0);
+      short = ltb-false _ _ (e4 .0);
+      bits = ltb-false _ _ (e5 .0);
+      fits = ltb-false _ _ (e6 .0);
+      room = room-is m 1 (not-false _ (e7 .0));
+    }
