@@ -14,7 +14,7 @@ use Rattle.lists.proofs.Tabulate.{tab-ext}
 use Rattle.lists.proofs.Patched.{by-place, patched-length, patched-inside, patched-below, patched-above}
 use Rattle.rules.specs.Cells.{cell}
 use Rattle.cells.specs.Page.{programmedAt}
-use Rattle.cells.proofs.Lent.{mid-at, part-patched}
+use Rattle.lists.proofs.Lent.{mid-at, part-patched}
 
 -- a place that none of the data goes to keeps what it has
 cell-missed : (off : ℕ) (bs : List ℕ) (j old kept : ℕ) → ((i : ℕ) → i < length bs → (off + i) % 256 ≡ j → ⊥)

@@ -11,7 +11,7 @@ use borrow.Rule.Slice.PartMut.{midOf}
 use Rattle.lists.specs.Places.{tabulate}
 use Rattle.lists.proofs.Tabulate.{tab-length, tab-at, tab-ext, tab-same}
 use Rattle.lists.proofs.Patched.{by-place, part-long}
-use Rattle.cells.proofs.Lent.{mid-at}
+use Rattle.lists.proofs.Lent.{mid-at}
 
 -- place j of what is read of l from a on
 abbrev pub wrappedAt : List ℕ → ℕ → ℕ → ℕ

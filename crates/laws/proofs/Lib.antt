@@ -1,4 +1,5 @@
 pub mod Accepted
+pub mod Answered
 pub mod NoWrite
 pub mod Protection
 pub mod Sound

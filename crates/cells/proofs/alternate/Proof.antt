@@ -6,7 +6,7 @@ use lib.ListN.{length}
 use borrow.Author.Tests.{eq-eqb, ne-eqb}
 use Rattle.lists.proofs.Choice.{if-true, if-false}
 use Rattle.lists.specs.Choice.{if_then_else_, _=?_}
-use Rattle.cells.proofs.Front.{Front, front-none, front-more, front-all}
+use Rattle.lists.proofs.Front.{Front, front-none, front-more, front-all}
 use borrow.Author.Needs.{needs}
 use Rattle.cells.proofs.alternate.Statement.{statement}
 use Rattle.cells.proofs.alternate.Tie as tie

@@ -3,7 +3,7 @@ use Prim.Native.Nat.{ℕ, _-_}
 use native.Mathlib.Omega.{arith}
 use lib.Bits.{bitAnd}
 use lib.ListN.{length, getD}
-use Rattle.cells.proofs.Front.{Front, front-none, front-more, front-old, front-all}
+use Rattle.lists.proofs.Front.{Front, front-none, front-more, front-old, front-all}
 use borrow.Author.Needs.{needs}
 use Rattle.cells.proofs.and_in.Statement.{statement}
 use Rattle.cells.proofs.and_in.Tie as tie

@@ -3,7 +3,7 @@ use Prim.Native.Nat.{_-_}
 use native.Mathlib.Omega.{arith}
 use lib.ListN.{length, getD}
 use Rattle.lists.proofs.Tabulate.{tab-ext}
-use Rattle.cells.proofs.Front.{Front, front-none, front-more, front-all}
+use Rattle.lists.proofs.Front.{Front, front-none, front-more, front-all}
 use borrow.Author.Needs.{needs}
 use Rattle.cells.proofs.copy.Statement.{statement}
 use Rattle.cells.proofs.copy.Tie as tie

@@ -4,7 +4,7 @@ use native.Mathlib.Omega.{arith}
 use Prim.Native.Nat.{ℕ, _-_}
 use lib.ListN.{length}
 use lib.Seq.{take-at}
-use Rattle.cells.proofs.Lent.{put-tail}
+use Rattle.lists.proofs.Lent.{put-tail}
 use Rattle.cells.proofs.Wrapped.{straight, wrapped}
 use borrow.Author.Needs.{needs}
 use Rattle.cells.proofs.copy_wrapped.Statement.{statement}

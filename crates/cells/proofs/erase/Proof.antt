@@ -1,7 +1,7 @@
 use mathlib.Core.Path.{refl}
 use native.Mathlib.Omega.{arith}
 use Rattle.rules.specs.Cells.{ff}
-use Rattle.cells.proofs.Lent.{part-patched}
+use Rattle.lists.proofs.Lent.{part-patched}
 use borrow.Author.Needs.{needs}
 use Rattle.cells.proofs.erase.Statement.{statement}
 use Rattle.cells.proofs.erase.Tie as tie

@@ -2,7 +2,7 @@ use mathlib.Core.Path.{refl}
 use Prim.Native.Nat.{_-_}
 use native.Mathlib.Omega.{arith}
 use lib.ListN.{length}
-use Rattle.cells.proofs.Front.{Front, front-none, front-more, front-all}
+use Rattle.lists.proofs.Front.{Front, front-none, front-more, front-all}
 use borrow.Author.Needs.{needs}
 use Rattle.cells.proofs.fill.Statement.{statement}
 use Rattle.cells.proofs.fill.Tie as tie

@@ -3,7 +3,7 @@ use Prim.Native.Nat.{ℕ, _*_, _/_, _%_}
 use native.Mathlib.Omega.{arith}
 use Rattle.lists.proofs.Patched.{put-patched, patched-same}
 use Rattle.rules.specs.Cells.{cell, programmed}
-use Rattle.cells.proofs.Lent.{mid-at}
+use Rattle.lists.proofs.Lent.{mid-at}
 use borrow.Author.Needs.{needs}
 use Rattle.cells.proofs.program_at.Statement.{statement}
 use Rattle.cells.proofs.program_at.Tie as tie

@@ -5,10 +5,10 @@ use Prim.Native.Nat.{ℕ, _+_, _-_, _≤_, _<_}
 use native.Mathlib.Omega.{arith}
 use lib.ListN.{length, getD, take, drop, length-drop, drop-of-length-le}
 use lib.Seq.{getD-take, getD-drop}
-use borrow.Rule.Slice.PartMut.{midOf, putMid}
+use borrow.Rule.Slice.PartMut.{midOf, putMid, post-is, mid-len}
 use Rattle.lists.specs.Places.{tabulate, patched}
 use Rattle.lists.proofs.Tabulate.{tab-same}
 use Rattle.lists.proofs.Patched.{put-patched, part-long}
 
 pub mid-at : (l : List ℕ) (a n j : ℕ) → j < n → getD (midOf a (a + n - a) l) j 0 ≡ getD l (a + j) 0
 mid-at l a n j h = getD-take (a + n - a) (drop a l) j 0 (omega arith) ∙ getD-drop a l j 0
@@ -24,3 +24,10 @@ pub put-tail : (l ys : List ℕ) (a : ℕ) → putMid a (length l - a) l ys ≡ 
 put-tail l ys a =
     ap (λ (r : List ℕ). take a l ++ (ys ++ r)) (drop-of-length-le (drop a l) {i = length l - a} (omega (arith, length-drop a l)))
     ∙ ap (λ (r : List ℕ). take a l ++ r) (append-nil ys)
+
+-- the first n places were lent, and left as ys
+pub put-front : (l ys : List ℕ) (n : ℕ) → n ≤ length l → putMid 0 (n - 0) l ys ≡ ys ++ drop n l
+put-front l ys n h = ap (λ (r : List ℕ). ys ++ r) (post-is 0 n l (omega arith))
+
+pub front-long : (l : List ℕ) (n : ℕ) → n ≤ length l → length (midOf 0 (n - 0) l) ≡ n
+front-long l n h = mid-len 0 n l (omega arith) ∙ omega arith

@@ -1,0 +1,36 @@
+use Rattle.laws.proofs.Answered.{event-served, event-refused}
+use Rattle.rules.specs.declared.Kept.{Kept}
+use Rattle.rules.specs.EventEntries.{eventTold, finishOf}
+use Rattle.rules.specs.declared.Event.the-variants.{Passed}
+use mathlib.Core.Path.{ap, _∙_, sym}
+use borrow.Author.Needs.{needs}
+use Rattle.chip.proofs.finish.Statement.{statement}
+use Rattle.chip.proofs.finish.Tie as tie
+
+event-requires : tie.Need-event-requires
+event-requires c κs = search needs
+
+returns : tie.Need-returns
+unfolding finishOf
+returns c = rw (← c .before .event .ensures) (event-refused _ _ _ (c .if1 .taken))
+
+regs-of-requires : tie.Need-regs-of-requires
+regs-of-requires c κs = search needs
+
+finished-requires : tie.Need-finished-requires
+finished-requires c κs = search needs
+
+kept-of-requires : tie.Need-kept-of-requires
+kept-of-requires c κs = search needs
+
+returns-2 : tie.Need-returns-2
+unfolding finishOf
+returns-2 c =
+    let k = c .before .before .before .before .before .args .kept in
+    rw (← c .before .before .before .before .event .ensures)
+    (ap (λ (w : Kept). eventTold k (Passed w)) (simp (c .kept-of .ensures, c .before .finished .ensures, c .before .before .regs-of .ensures)) ∙ event-served _ k _ (c .before .before .before .if1 .left))
+
+pub finish-spec : {M : Type 1} → statement M
+finish-spec =
+    tie.close
+    (tie.spec event-requires returns regs-of-requires finished-requires kept-of-requires returns-2)

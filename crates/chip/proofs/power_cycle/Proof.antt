@@ -1,0 +1,42 @@
+use Rattle.laws.proofs.Answered.{event-served, event-refused}
+use Rattle.rules.specs.declared.Kept.{Kept}
+use Rattle.rules.specs.EventEntries.{eventTold, powerCycleOf}
+use Rattle.rules.specs.declared.Event.the-variants.{Passed}
+use mathlib.Core.Path.{ap, _∙_, sym}
+use borrow.Author.Needs.{needs}
+use Rattle.chip.proofs.power_cycle.Statement.{statement}
+use Rattle.chip.proofs.power_cycle.Tie as tie
+
+event-requires : tie.Need-event-requires
+event-requires c κs = search needs
+
+returns : tie.Need-returns
+unfolding powerCycleOf
+returns c = rw (← c .before .event .ensures) (event-refused _ _ _ (c .if1 .taken))
+
+regs-of-requires : tie.Need-regs-of-requires
+regs-of-requires c κs = search needs
+
+power-cycled-requires : tie.Need-power-cycled-requires
+power-cycled-requires c κs = search needs
+
+kept-of-requires : tie.Need-kept-of-requires
+kept-of-requires c κs = search needs
+
+returns-2 : tie.Need-returns-2
+unfolding powerCycleOf
+returns-2 c =
+    let k = c .before .before .before .before .before .args .kept in
+    rw (← c .before .before .before .before .event .ensures)
+    (ap (λ (w : Kept). eventTold k (Passed w)) (simp (c .kept-of .ensures, c .before .power-cycled .ensures, c .before .before .regs-of .ensures)) ∙ event-served _ k _ (c .before .before .before .if1 .left))
+
+pub power-cycle-spec : {M : Type 1} → statement M
+power-cycle-spec =
+    tie.close
+    (tie.spec
+    event-requires
+    returns
+    regs-of-requires
+    power-cycled-requires
+    kept-of-requires
+    returns-2)

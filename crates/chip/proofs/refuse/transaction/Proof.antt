@@ -1,0 +1,103 @@
+use Rattle.rules.specs.Refusals.{transactRefusal}
+use Rattle.lists.specs.Choice.{if_then_else_}
+use borrow.Author.Tests.{ne-eqb, eq-eqb, lt-ltb, le-ltb}
+use borrow.Author.Needs.{needs}
+use Rattle.chip.proofs.refuse.transaction.Statement.{statement}
+use Rattle.chip.proofs.refuse.transaction.Tie as tie
+
+is-part-requires : tie.Need-is-part-requires
+is-part-requires c κs = search needs
+
+refuse-requires : tie.Need-refuse-requires
+refuse-requires c κs = search needs
+
+returns : tie.Need-returns
+unfolding transactRefusal if_then_else_
+returns c = simp (← c .before .before .is-part .ensures, c .before .if1 .taken) (c .refuse .ensures)
+
+size-of-requires : tie.Need-size-of-requires
+size-of-requires c κs = search needs
+
+refuse-requires-2 : tie.Need-refuse-requires-2
+refuse-requires-2 c κs = search needs
+
+returns-2 : tie.Need-returns-2
+unfolding transactRefusal if_then_else_
+returns-2 c = simp (← c .before .before .before .before .is-part .ensures, c .before .before .before .if1 .left, ← c .before .before .size-of .ensures, ne-eqb _ _ (c .before .if2 .taken)) (c .refuse2 .ensures)
+
+status-end-requires : tie.Need-status-end-requires
+status-end-requires c κs = search needs
+
+well-formed-requires : tie.Need-well-formed-requires
+well-formed-requires c κs = search needs
+
+refuse-requires-3 : tie.Need-refuse-requires-3
+refuse-requires-3 c κs = search needs
+
+returns-3 : tie.Need-returns-3
+unfolding transactRefusal if_then_else_
+returns-3 c = simp (← c .before .before .before .before .before .before .before .is-part .ensures, c .before .before .before .before .before .before .if1 .left, ← c .before .before .before .before .before .size-of .ensures, eq-eqb _ _ (c .before .before .before .before .if2 .left), ← c .before .before .before .status-end .ensures, ← c .before .before .well-formed .ensures, c .before .if3 .taken) (c .refuse3 .ensures)
+
+refuse-requires-4 : tie.Need-refuse-requires-4
+refuse-requires-4 c κs = search needs
+
+returns-4 : tie.Need-returns-4
+unfolding transactRefusal if_then_else_
+returns-4 c = simp (← c .before .before .before .before .before .before .before .before .is-part .ensures, c .before .before .before .before .before .before .before .if1 .left, ← c .before .before .before .before .before .before .size-of .ensures, eq-eqb _ _ (c .before .before .before .before .before .if2 .left), ← c .before .before .before .before .status-end .ensures, ← c .before .before .before .well-formed .ensures, c .before .before .if3 .left, lt-ltb _ _ (c .before .if4 .taken)) (c .refuse4 .ensures)
+
+refuse-requires-5 : tie.Need-refuse-requires-5
+refuse-requires-5 c κs = search needs
+
+returns-5 : tie.Need-returns-5
+unfolding transactRefusal if_then_else_
+returns-5 c = simp (← c .before .before .before .before .before .before .before .before .before .is-part .ensures, c .before .before .before .before .before .before .before .before .if1 .left, ← c .before .before .before .before .before .before .before .size-of .ensures, eq-eqb _ _ (c .before .before .before .before .before .before .if2 .left), ← c .before .before .before .before .before .status-end .ensures, ← c .before .before .before .before .well-formed .ensures, c .before .before .before .if3 .left, le-ltb _ _ (c .before .before .if4 .left), lt-ltb _ _ (c .before .if5 .taken)) (c .refuse5 .ensures)
+
+refuse-requires-6 : tie.Need-refuse-requires-6
+refuse-requires-6 c κs = search needs
+
+returns-6 : tie.Need-returns-6
+unfolding transactRefusal if_then_else_
+returns-6 c = simp (← c .before .before .before .before .before .before .before .before .before .before .is-part .ensures, c .before .before .before .before .before .before .before .before .before .if1 .left, ← c .before .before .before .before .before .before .before .before .size-of .ensures, eq-eqb _ _ (c .before .before .before .before .before .before .before .if2 .left), ← c .before .before .before .before .before .before .status-end .ensures, ← c .before .before .before .before .before .well-formed .ensures, c .before .before .before .before .if3 .left, le-ltb _ _ (c .before .before .before .if4 .left), le-ltb _ _ (c .before .before .if5 .left), lt-ltb _ _ (c .before .if6 .taken)) (c .refuse6 .ensures)
+
+has-room-requires : tie.Need-has-room-requires
+has-room-requires c κs = search needs
+
+refuse-requires-7 : tie.Need-refuse-requires-7
+refuse-requires-7 c κs = search needs
+
+returns-7 : tie.Need-returns-7
+unfolding transactRefusal if_then_else_
+returns-7 c = simp (← c .before .before .before .before .before .before .before .before .before .before .before .before .is-part .ensures, c .before .before .before .before .before .before .before .before .before .before .before .if1 .left, ← c .before .before .before .before .before .before .before .before .before .before .size-of .ensures, eq-eqb _ _ (c .before .before .before .before .before .before .before .before .before .if2 .left), ← c .before .before .before .before .before .before .before .before .status-end .ensures, ← c .before .before .before .before .before .before .before .well-formed .ensures, c .before .before .before .before .before .before .if3 .left, le-ltb _ _ (c .before .before .before .before .before .if4 .left), le-ltb _ _ (c .before .before .before .before .if5 .left), le-ltb _ _ (c .before .before .before .if6 .left), ← c .before .before .has-room .ensures, c .before .if7 .taken) (c .refuse7 .ensures)
+
+refuse-requires-8 : tie.Need-refuse-requires-8
+refuse-requires-8 c κs = search needs
+
+returns-8 : tie.Need-returns-8
+unfolding transactRefusal if_then_else_
+returns-8 c = simp (← c .before .before .before .before .before .before .before .before .before .before .before .before .is-part .ensures, c .before .before .before .before .before .before .before .before .before .before .before .if1 .left, ← c .before .before .before .before .before .before .before .before .before .before .size-of .ensures, eq-eqb _ _ (c .before .before .before .before .before .before .before .before .before .if2 .left), ← c .before .before .before .before .before .before .before .before .status-end .ensures, ← c .before .before .before .before .before .before .before .well-formed .ensures, c .before .before .before .before .before .before .if3 .left, le-ltb _ _ (c .before .before .before .before .before .if4 .left), le-ltb _ _ (c .before .before .before .before .if5 .left), le-ltb _ _ (c .before .before .before .if6 .left), ← c .before .before .has-room .ensures, c .before .if7 .left) (c .refuse8 .ensures)
+
+pub transaction-spec : {M : Type 1} → statement M
+transaction-spec =
+    tie.close
+    (tie.spec
+    is-part-requires
+    refuse-requires
+    returns
+    size-of-requires
+    refuse-requires-2
+    returns-2
+    status-end-requires
+    well-formed-requires
+    refuse-requires-3
+    returns-3
+    refuse-requires-4
+    returns-4
+    refuse-requires-5
+    returns-5
+    refuse-requires-6
+    returns-6
+    has-room-requires
+    refuse-requires-7
+    returns-7
+    refuse-requires-8
+    returns-8)
