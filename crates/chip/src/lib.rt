@@ -33,9 +33,9 @@ ghost use Rattle.laws.specs.Room.{Room};
 fn data_of(b: &[u8]) -> &[u8]
     ensures { λ r. ⌜ now r ≡ drop 4 (now (b .entry)) ⌝ }
 {
-    let n = b.len();
-    if n < 4 {
-        return &b[n..];
+    let end = b.len();
+    if end < 4 {
+        return &b[end..];
     }
     &b[4..]
 }

@@ -18,6 +18,12 @@ pub struct Meter {
     pub ignored: u32,
 }
 
+// What becomes of a meter that is brought up to date: 0, or refusal 7 and the meter as it was.
+pub struct Metered {
+    pub number: u8,
+    pub meter: Meter,
+}
+
 // The registers taken apart, under document 01's names.
 pub struct Regs {
     pub busy: bool,
