@@ -1,5 +1,6 @@
 pub mod Accepted
 pub mod Answered
+pub mod CarriedOut
 pub mod NoWrite
 pub mod Protection
 pub mod Sound

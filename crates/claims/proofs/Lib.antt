@@ -1,0 +1,13 @@
+pub mod Choices
+pub mod Ignored
+pub mod Counting
+pub mod Reach
+pub mod Erases
+pub mod Programs
+pub mod Stays
+pub mod Allowed
+pub mod Table
+pub mod RoundTrip
+pub mod Formed
+pub mod Unique
+pub mod Prefix

@@ -1,0 +1,1 @@
+// Theorems over the rules, and no function.
