@@ -25,6 +25,13 @@ abbrev pub badRecord : Found → Refusal
 badRecord (At i) = refusalAt 31 i
 badRecord Nothing = refusal 0
 
+-- ".. 31, 7"
+unfoldable pub recordsRefusal : Meter → List ℕ → Refusal
+recordsRefusal m t =
+    badRecord (firstBad t) orElse
+    if not (room m (records t)) then refusal 7 else
+    refusal 0
+
 -- "replay checks 1, 2, 3, 30, 31, 7, all before its first record": array of al bytes, tape t
 unfoldable pub replayRefusal : ℕ → ℕ → Kept → Meter → List ℕ → Refusal
 replayRefusal part al kept m t =
@@ -32,9 +39,7 @@ replayRefusal part al kept m t =
     if not (al =? partOf part .size) then refusal 2 else
     if not (wellFormed (partOf part .statusEnd) kept) then refusal 3 else
     if not (whole t) then refusal 30 else
-    badRecord (firstBad t) orElse
-    if not (room m (records t)) then refusal 7 else
-    refusal 0
+    recordsRefusal m t
 
 -- the paper's number and values: a refusal leaves the registers and the meter as they were handed in
 abbrev pub replayTold : Kept → Meter → Replayed → AnswerTold

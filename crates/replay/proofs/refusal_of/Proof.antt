@@ -1,0 +1,76 @@
+use Rattle.rules.specs.Replay.{replayRefusal}
+use Rattle.lists.specs.Choice.{if_then_else_}
+use borrow.Author.Tests.{ne-eqb, eq-eqb}
+use borrow.Author.Needs.{needs}
+use Rattle.replay.proofs.refusal_of.Statement.{statement}
+use Rattle.replay.proofs.refusal_of.Tie as tie
+
+is-part-requires : tie.Need-is-part-requires
+is-part-requires c κs = search needs
+
+refuse-requires : tie.Need-refuse-requires
+refuse-requires c κs = search needs
+
+returns : tie.Need-returns
+unfolding replayRefusal if_then_else_
+returns c = simp (← c .before .before .is-part .ensures, c .before .if1 .taken) (c .refuse .ensures)
+
+size-of-requires : tie.Need-size-of-requires
+size-of-requires c κs = search needs
+
+refuse-requires-2 : tie.Need-refuse-requires-2
+refuse-requires-2 c κs = search needs
+
+returns-2 : tie.Need-returns-2
+unfolding replayRefusal if_then_else_
+returns-2 c = simp (← c .before .before .before .before .is-part .ensures, c .before .before .before .if1 .left, ← c .before .before .size-of .ensures, ne-eqb _ _ (c .before .if2 .taken)) (c .refuse2 .ensures)
+
+status-end-requires : tie.Need-status-end-requires
+status-end-requires c κs = search needs
+
+well-formed-requires : tie.Need-well-formed-requires
+well-formed-requires c κs = search needs
+
+refuse-requires-3 : tie.Need-refuse-requires-3
+refuse-requires-3 c κs = search needs
+
+returns-3 : tie.Need-returns-3
+unfolding replayRefusal if_then_else_
+returns-3 c = simp (← c .before .before .before .before .before .before .before .is-part .ensures, c .before .before .before .before .before .before .if1 .left, ← c .before .before .before .before .before .size-of .ensures, eq-eqb _ _ (c .before .before .before .before .if2 .left), ← c .before .before .before .status-end .ensures, ← c .before .before .well-formed .ensures, c .before .if3 .taken) (c .refuse3 .ensures)
+
+is-whole-requires : tie.Need-is-whole-requires
+is-whole-requires c κs = search needs
+
+refuse-requires-4 : tie.Need-refuse-requires-4
+refuse-requires-4 c κs = search needs
+
+returns-4 : tie.Need-returns-4
+unfolding replayRefusal if_then_else_
+returns-4 c = simp (← c .before .before .before .before .before .before .before .before .before .is-part .ensures, c .before .before .before .before .before .before .before .before .if1 .left, ← c .before .before .before .before .before .before .before .size-of .ensures, eq-eqb _ _ (c .before .before .before .before .before .before .if2 .left), ← c .before .before .before .before .before .status-end .ensures, ← c .before .before .before .before .well-formed .ensures, c .before .before .before .if3 .left, ← c .before .before .is-whole .ensures, c .before .if4 .taken) (c .refuse4 .ensures)
+
+refuse-records-requires : tie.Need-refuse-records-requires
+refuse-records-requires c κs = search needs
+
+returns-5 : tie.Need-returns-5
+unfolding replayRefusal if_then_else_
+returns-5 c = simp (← c .before .before .before .before .before .before .before .before .before .is-part .ensures, c .before .before .before .before .before .before .before .before .if1 .left, ← c .before .before .before .before .before .before .before .size-of .ensures, eq-eqb _ _ (c .before .before .before .before .before .before .if2 .left), ← c .before .before .before .before .before .status-end .ensures, ← c .before .before .before .before .well-formed .ensures, c .before .before .before .if3 .left, ← c .before .before .is-whole .ensures, c .before .if4 .left) (c .refuse-records .ensures)
+
+pub refusal-of-spec : {M : Type 1} → statement M
+refusal-of-spec =
+    tie.close
+    (tie.spec
+    is-part-requires
+    refuse-requires
+    returns
+    size-of-requires
+    refuse-requires-2
+    returns-2
+    status-end-requires
+    well-formed-requires
+    refuse-requires-3
+    returns-3
+    is-whole-requires
+    refuse-requires-4
+    returns-4
+    refuse-records-requires
+    returns-5)

@@ -1,0 +1,201 @@
+// A tape played on a chip: every check first, then record by record; outputs are dropped.
+use lists::Found;
+use rules::AtPlace;
+use rules::Kept;
+use rules::Meter;
+use rules::Played;
+use rules::Refusal;
+use rules::Regs;
+use rules::Replayed;
+use rules::Sent;
+ghost use mathlib.Core.Path.{_≡_};
+ghost use mathlib.Core.Bool.{true};
+ghost use Prim.Native.Nat.{ℕ, _+_, _≤_, _<_, min};
+ghost use lib.ListN.{length, take, drop};
+ghost use Rattle.rules.specs.Parts.{partOf};
+ghost use Rattle.rules.specs.Tape.{records, recordLength, transaction, recAt, recsFrom};
+ghost use Rattle.rules.specs.Events.{powerCycled};
+ghost use Rattle.rules.specs.Play.{state, playRec, play};
+ghost use Rattle.rules.specs.Refusals.{refusal};
+ghost use Rattle.rules.specs.Replay.{badRecord, recordsRefusal, replayRefusal, replayTold, replaySeen, replayFirstOf, replayOf};
+ghost use Rattle.laws.specs.Room.{Room};
+ghost use Rattle.replay.specs.Playable.{Playable};
+
+// What a record changes besides the array.
+pub struct Playing {
+    pub regs: Regs,
+    pub meter: Meter,
+}
+
+// The transaction whose bytes lie in the tape after the record's four head bytes.
+fn play_sent(part: u32, s: Playing, array: &mut [u8], tape: &[u8], sent: Sent) -> Playing
+    requires { ⌜ (length (now array) ≡ partOf part .size) × (sent .length ≤ 260) × (sent .start + sent .length ≤ length (now tape)) × Room (s .meter) 1 ⌝ }
+    ensures { λ t. ⌜ state (t .regs) (now (array .exit)) (t .meter) ≡ playRec (partOf part) (transaction (take (sent .length) (drop (sent .start) (now (tape .entry)))) (sent .leftover) (sent .high)) (state (s .regs) (now (array .entry)) (s .meter)) ⌝ }
+{
+    let start = sent.start;
+    let end = start + sent.length;
+    let r = s.regs;
+    let m = s.meter;
+    let t = chip::turn(
+        part,
+        r,
+        m,
+        array,
+        &tape[start..end],
+        sent.leftover as u32,
+        sent.high,
+    );
+    let next = t.regs;
+    let meter = t.meter;
+    Playing {
+        regs: next,
+        meter: meter,
+    }
+}
+
+// Record p.
+fn play_at(part: u32, s: Playing, array: &mut [u8], tape: &[u8], p: usize) -> Playing
+    requires { ⌜ (length (now array) ≡ partOf part .size) × Playable (now tape) (p + 1) × Room (s .meter) 1 ⌝ }
+    ensures { λ t. ⌜ state (t .regs) (now (array .exit)) (t .meter) ≡ playRec (partOf part) (recAt (now (tape .entry)) p) (state (s .regs) (now (array .entry)) (s .meter)) ⌝ }
+{
+    let found = tape::said_at(tape, p);
+    let r = s.regs;
+    let m = s.meter;
+    match found {
+        AtPlace::Transaction(sent) => play_sent(part, s, array, tape, sent),
+        AtPlace::Finish => Playing {
+            regs: regs::finished(r),
+            meter: m,
+        },
+        // A record that is there and good is no end and no fault.
+        AtPlace::PowerCycle => cycled(r, m),
+        AtPlace::End => cycled(r, m),
+        AtPlace::Fault(_) => cycled(r, m),
+    }
+}
+
+fn cycled(r: Regs, m: Meter) -> Playing
+    ensures { λ t. ⌜ (t .regs ≡ powerCycled r) × (t .meter ≡ m) ⌝ }
+{
+    Playing {
+        regs: regs::power_cycled(r),
+        meter: m,
+    }
+}
+
+// The first n records.
+pub fn play_first(part: u32, start: Playing, array: &mut [u8], tape: &[u8], n: usize) -> Playing
+    requires { ⌜ (length (now array) ≡ partOf part .size) × Playable (now tape) n × Room (start .meter) n ⌝ }
+    ensures { λ t. ⌜ state (t .regs) (now (array .exit)) (t .meter) ≡ play (partOf part) (recsFrom (now (tape .entry)) 0 n) (state (start .regs) (now (array .entry)) (start .meter)) ⌝ }
+{
+    let mut s = start;
+    let mut p = 0;
+    while p < n {
+        s = play_at(part, s, array, tape, p);
+        p += 1;
+    }
+    s
+}
+
+// ---- the checks, all before the first record
+
+// 31 with the index of the first bad record.
+fn bad_record(found: Found) -> Refusal
+    ensures { λ z. ⌜ z ≡ badRecord found ⌝ }
+{
+    match found {
+        Found::At(i) => Refusal {
+            number: 31,
+            index: i,
+        },
+        Found::Nothing => refuse(0),
+    }
+}
+
+fn refuse(number: u8) -> Refusal
+    ensures { λ z. ⌜ z ≡ refusal number ⌝ }
+{
+    Refusal {
+        number: number,
+        index: 0,
+    }
+}
+
+// 31, then 7.
+fn refuse_records(m: Meter, tape: &[u8]) -> Refusal
+    ensures { λ z. ⌜ z ≡ recordsRefusal m (now (tape .entry)) ⌝ }
+{
+    let z = bad_record(tape::first_bad(tape));
+    let number = z.number;
+    if number != 0 {
+        return z;
+    }
+    if !meter::has_room(m, tape::record_count(tape)) {
+        return refuse(7);
+    }
+    refuse(0)
+}
+
+// 1, 2, 3, 30, 31, 7: array of al bytes.
+fn refusal_of(part: u32, al: usize, kept: Kept, m: Meter, tape: &[u8]) -> Refusal
+    ensures { λ z. ⌜ z ≡ replayRefusal part al kept m (now (tape .entry)) ⌝ }
+{
+    if !parts::is_part(part) {
+        return refuse(1);
+    }
+    if al != parts::size_of(part) {
+        return refuse(2);
+    }
+    if !regs::well_formed(parts::status_end(part), kept) {
+        return refuse(3);
+    }
+    if !tape::is_whole(tape) {
+        return refuse(30);
+    }
+    refuse_records(m, tape)
+}
+
+// ---- the entries: any input
+
+// The first k records of the tape, or all if it has no more: the checks are those of the whole tape.
+pub fn replay_first(
+    part: u32,
+    kept: Kept,
+    m: Meter,
+    array: &mut [u8],
+    tape: &[u8],
+    k: usize,
+) -> Replayed
+    ensures { λ t. ⌜ replaySeen (replayTold kept m t) (now (array .exit)) ≡ replayFirstOf part kept m (now (array .entry)) (now (tape .entry)) k ⌝ }
+{
+    let z = refusal_of(part, array.len(), kept, m, tape);
+    let number = z.number;
+    if number != 0 {
+        return Replayed::Refused(z);
+    }
+    let n = lesser(k, tape::record_count(tape));
+    let start = Playing {
+        regs: regs::regs_of(kept),
+        meter: m,
+    };
+    let s = play_first(part, start, array, tape, n);
+    let next = s.regs;
+    let meter = s.meter;
+    Replayed::Ended(Played {
+        regs: regs::kept_of(next),
+        meter: meter,
+    })
+}
+
+fn lesser(a: usize, b: usize) -> usize
+    ensures { λ r. ⌜ r ≡ min a b ⌝ }
+{
+    if a < b { a } else { b }
+}
+
+// The whole tape.
+pub fn replay(part: u32, kept: Kept, m: Meter, array: &mut [u8], tape: &[u8]) -> Replayed
+    ensures { λ t. ⌜ replaySeen (replayTold kept m t) (now (array .exit)) ≡ replayOf part kept m (now (array .entry)) (now (tape .entry)) ⌝ }
+{
+    replay_first(part, kept, m, array, tape, tape::record_count(tape))
+}

@@ -1,0 +1,223 @@
+// A tape's records: read at a place, checked, written. The place is a number first; the reader stands above.
+use lists::Found;
+use rules::AtPlace;
+use rules::Sent;
+ghost use mathlib.Core.Path.{_≡_};
+ghost use mathlib.Core.List.{_++_};
+ghost use Prim.Native.Nat.{_+_, _*_, _≤_, _<_, _^_};
+ghost use lib.ListN.{length, take, drop, replicate};
+ghost use Rattle.lists.specs.Places.{everyIn};
+ghost use Rattle.rules.specs.Status.{flag};
+ghost use Rattle.rules.specs.Tape.{Rec, recordLength, sentLimit, lengthAt, whole, records, isZero, goodRecord, firstBad, readAt, nextPlace, encodeRec};
+ghost use Rattle.tape.specs.Record.{headGood, saidAt, readingAt};
+
+// ---- the whole tape
+
+// Not 30.
+pub fn is_whole(tape: &[u8]) -> bool
+    ensures { λ r. ⌜ r ≡ whole (now (tape .entry)) ⌝ }
+{
+    tape.len() % 264 == 0
+}
+
+pub fn record_count(tape: &[u8]) -> usize
+    ensures { λ r. ⌜ r ≡ records (now (tape .entry)) ⌝ }
+{
+    tape.len() / 264
+}
+
+// The first record that 31 refuses.
+pub fn first_bad(tape: &[u8]) -> Found
+    ensures { λ r. ⌜ r ≡ firstBad (now (tape .entry)) ⌝ }
+{
+    let n = record_count(tape);
+    let mut p = 0;
+    while p < n {
+        if !is_good(tape, p) {
+            return Found::At(p);
+        }
+        p += 1;
+    }
+    Found::Nothing
+}
+
+// ---- one record
+
+// Every byte is 0. No early exit, so that the loop becomes vector instructions.
+fn all_zero(s: &[u8]) -> bool
+    ensures { λ r. ⌜ r ≡ everyIn (isZero (now (s .entry))) 0 (length (now (s .entry))) ⌝ }
+{
+    let mut acc: u8 = 0;
+    let mut i = 0;
+    while i < s.len() {
+        acc = acc | s[i];
+        i += 1;
+    }
+    acc == 0
+}
+
+fn sent_length(tape: &[u8], place: usize) -> usize
+    requires { ⌜ place < records (now tape) ⌝ }
+    ensures { λ r. ⌜ (r ≡ lengthAt (now (tape .entry)) place) × (r < 65536) ⌝ }
+{
+    let at = 264 * place;
+    tape[at] as usize * 256 + tape[at + 1] as usize
+}
+
+// What 31 asks of the four head bytes.
+fn is_good_head(n: usize, kind: u8, bits: u8) -> bool
+    ensures { λ r. ⌜ r ≡ headGood n kind bits ⌝ }
+{
+    if 260 < n {
+        return false;
+    }
+    if 2 < kind {
+        return false;
+    }
+    if 15 < bits {
+        return false;
+    }
+    if kind == 0 {
+        return true;
+    }
+    if n != 0 {
+        return false;
+    }
+    bits == 0
+}
+
+// Not 31.
+pub fn is_good(tape: &[u8], place: usize) -> bool
+    requires { ⌜ place < records (now tape) ⌝ }
+    ensures { λ r. ⌜ r ≡ goodRecord (now (tape .entry)) place ⌝ }
+{
+    let at = 264 * place;
+    let n = sent_length(tape, place);
+    if !is_good_head(n, tape[at + 2], tape[at + 3]) {
+        return false;
+    }
+    let from = at + 4 + n;
+    let end = at + 264;
+    all_zero(&tape[from..end])
+}
+
+// What a record says that 30 and 31 let pass.
+pub fn said_at(tape: &[u8], place: usize) -> AtPlace
+    requires { ⌜ place < records (now tape) ⌝ }
+    ensures { λ r. ⌜ r ≡ saidAt (now (tape .entry)) place ⌝ }
+{
+    let at = 264 * place;
+    let kind = tape[at + 2];
+    if kind == 0 {
+        let bits = tape[at + 3];
+        return AtPlace::Transaction(Sent {
+            start: at + 4,
+            length: sent_length(tape, place),
+            leftover: bits % 8,
+            high: 8 <= bits,
+        });
+    }
+    if kind == 1 {
+        return AtPlace::Finish;
+    }
+    AtPlace::PowerCycle
+}
+
+// ---- a read at a place
+
+pub fn read_at(tape: &[u8], place: usize) -> AtPlace
+    ensures { λ r. ⌜ r ≡ readAt (now (tape .entry)) place ⌝ }
+{
+    if !is_whole(tape) {
+        return AtPlace::Fault(30);
+    }
+    if record_count(tape) <= place {
+        return AtPlace::End;
+    }
+    if !is_good(tape, place) {
+        return AtPlace::Fault(31);
+    }
+    said_at(tape, place)
+}
+
+// The place after an answer. What a read answers meets the bound: `next-fits`.
+pub fn next_place(place: usize, found: AtPlace) -> usize
+    requires { ⌜ nextPlace place found < 2 ^ 64 ⌝ }
+    ensures { λ r. ⌜ r ≡ nextPlace place found ⌝ }
+{
+    match found {
+        AtPlace::Transaction(_) => place + 1,
+        AtPlace::Finish => place + 1,
+        AtPlace::PowerCycle => place + 1,
+        AtPlace::End => place,
+        AtPlace::Fault(_) => place,
+    }
+}
+
+// What a read finds, and the place after it.
+pub struct Reading {
+    pub found: AtPlace,
+    pub next: usize,
+}
+
+pub fn reading_at(tape: &[u8], place: usize) -> Reading
+    ensures { λ r. ⌜ r ≡ readingAt (now (tape .entry)) place ⌝ }
+{
+    let found = read_at(tape, place);
+    Reading {
+        found: found,
+        next: next_place(place, found),
+    }
+}
+
+// ---- a record written
+
+// Each byte becomes 0.
+fn clear(s: &mut [u8])
+    ensures { λ _. ⌜ now (s .exit) ≡ replicate (length (now (s .entry))) 0 ⌝ }
+{
+    let mut i = 0;
+    while i < s.len() {
+        s[i] = 0;
+        i += 1;
+    }
+}
+
+// The bytes from a on become b.
+fn put(s: &mut [u8], a: usize, b: &[u8])
+    requires { ⌜ a + length (now b) ≤ length (now s) ⌝ }
+    ensures { λ _. ⌜ now (s .exit) ≡ take a (now (s .entry)) ++ now (b .entry) ++ drop (a + length (now (b .entry))) (now (s .entry)) ⌝ }
+{
+    let mut i = 0;
+    while i < b.len() {
+        s[a + i] = b[i];
+        i += 1;
+    }
+}
+
+// Byte 3: the leftover bits, plus 8 where /WP is high.
+fn bits_of(x: u8, high: bool) -> u8
+    requires { ⌜ x ≤ 7 ⌝ }
+    ensures { λ r. ⌜ r ≡ x + flag high * 8 ⌝ }
+{
+    if high { x + 8 } else { x }
+}
+
+pub fn put_transaction(out: &mut [u8], b: &[u8], x: u8, high: bool)
+    requires { ⌜ (length (now out) ≡ recordLength) × (length (now b) ≤ sentLimit) × (x ≤ 7) ⌝ }
+    ensures { λ _. ⌜ now (out .exit) ≡ encodeRec (Rec.transaction (now (b .entry)) x high) ⌝ }
+{
+    let n = b.len();
+    let head = [(n / 256) as u8, (n % 256) as u8, 0, bits_of(x, high)];
+    clear(out);
+    put(out, 0, &head);
+    put(out, 4, b);
+}
+
+pub fn put_finish(out: &mut [u8])
+    requires { ⌜ length (now out) ≡ recordLength ⌝ }
+    ensures { λ _. ⌜ now (out .exit) ≡ encodeRec Rec.finish ⌝ }
+{
+    clear(out);
+    out[2] = 1;
+}
