@@ -27,7 +27,7 @@ use Rattle.rules.specs.Tape.{Rec, transaction, finish, powerCycle, kindAt, sent
 use Rattle.rules.specs.Play.{State, state, playRec, play}
 use Rattle.laws.specs.Room.{Room}
 use Rattle.tape.specs.Record.{recOf, saidAt}
-use Rattle.tape.proofs.Place.{said-rec}
+use Rattle.tape.proofs.Said.{said-rec}
 use Rattle.laws.proofs.CarriedOut.{Plain, by-write}
 
 -- a turn without its output is a transaction's record played

@@ -23,4 +23,5 @@ pub mod Records
 pub mod Translate
 pub mod Ready
 pub mod Listing
+pub mod CEntries
 pub mod Bench

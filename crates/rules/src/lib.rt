@@ -177,3 +177,48 @@ pub enum Quoted {
     Billed(Bill),
     Refused(Refusal),
 }
+
+// ---- the answers as the C interface has them: numbers alone
+
+#[repr(C)]
+pub struct TbAnswer {
+    pub number: u32,
+    pub index: u64,
+    pub regs: Kept,
+    pub meter: Meter,
+}
+
+#[repr(C)]
+pub struct TbEvent {
+    pub number: u32,
+    pub index: u64,
+    pub regs: Kept,
+}
+
+#[repr(C)]
+pub struct TbTape {
+    pub number: u32,
+    pub index: u64,
+    pub length: u64,
+}
+
+#[repr(C)]
+pub struct TbBill {
+    pub number: u32,
+    pub index: u64,
+    pub programs: u32,
+    pub erases: u32,
+    pub writes: u32,
+    pub length: u64,
+}
+
+#[repr(C)]
+pub struct TbRecord {
+    pub kind: u32,
+    pub number: u32,
+    pub length: u32,
+    pub leftover: u32,
+    pub wp: u32,
+    pub start: u64,
+    pub next: u64,
+}

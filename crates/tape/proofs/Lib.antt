@@ -1,6 +1,6 @@
 pub mod Scan
 pub mod Good
-pub mod Place
+pub mod Said
 pub mod Encoded
 pub mod Round
 pub mod Written

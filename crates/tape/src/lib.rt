@@ -9,6 +9,7 @@ ghost use lib.ListN.{length, take, drop, replicate};
 ghost use Rattle.lists.specs.Places.{everyIn};
 ghost use Rattle.rules.specs.Status.{flag};
 ghost use Rattle.rules.specs.Tape.{Rec, recordLength, sentLimit, lengthAt, whole, records, isZero, goodRecord, firstBad, readAt, nextPlace, encodeRec};
+ghost use Rattle.tape.specs.Moves.{found, after};
 ghost use Rattle.tape.specs.Record.{headGood, saidAt, readingAt};
 
 // ---- the whole tape
@@ -220,4 +221,41 @@ pub fn put_finish(out: &mut [u8])
 {
     clear(out);
     out[2] = 1;
+}
+
+// ---- the reader
+
+// It keeps hold of the caller's bytes and its place. Each function takes it apart and leaves the work to `reading_at`.
+pub struct Reader<'a> {
+    pub bytes: &'a [u8],
+    pub place: usize,
+}
+
+pub fn new<'a>(bytes: &'a [u8]) -> Reader<'a>
+    ensures { λ r. ⌜ (r .bytes ≡ bytes .entry) × (r .place ≡ 0) ⌝ }
+{
+    Reader { bytes, place: 0 }
+}
+
+pub fn place<'a>(r: Reader<'a>) -> usize
+    ensures { λ n. ⌜ n ≡ r .entry .place ⌝ }
+{
+    r.place
+}
+
+// A record moves the place by one; the end and a fault leave it.
+pub fn read<'s, 'a>(r: &'s mut Reader<'a>) -> AtPlace
+    ensures { λ t. ⌜ (t ≡ found (now (r .entry))) × (now (r .exit) ≡ after (now (r .entry))) ⌝ }
+{
+    let got = reading_at(r.bytes, r.place);
+    r.place = got.next;
+    got.found
+}
+
+// The first answer of a reader of the tape. Its callers need know nothing of readers.
+pub fn first_of(tape: &[u8]) -> AtPlace
+    ensures { λ t. ⌜ t ≡ readAt (now (tape .entry)) 0 ⌝ }
+{
+    let mut r = new(tape);
+    read(&mut r)
 }

@@ -4,7 +4,7 @@ use native.Mathlib.Omega.{arith}
 use borrow.Author.Tests.{le-leb, lt-leb, not-false}
 use Rattle.lists.specs.Choice.{if_then_else_}
 use Rattle.rules.specs.Tape.{records, readAt}
-use Rattle.tape.proofs.Place.{read-said}
+use Rattle.tape.proofs.Said.{read-said}
 use borrow.Author.Needs.{needs}
 use Rattle.tape.proofs.read_at.Statement.{statement}
 use Rattle.tape.proofs.read_at.Tie as tie

@@ -1,7 +1,7 @@
 use mathlib.Core.Path.{ap, _∙_}
 use native.Mathlib.Omega.{arith}
 use Rattle.rules.specs.Tape.{nextPlace}
-use Rattle.tape.proofs.Place.{next-fits}
+use Rattle.tape.proofs.Said.{next-fits}
 use borrow.Author.Needs.{needs}
 use Rattle.tape.proofs.reading_at.Statement.{statement}
 use Rattle.tape.proofs.reading_at.Tie as tie

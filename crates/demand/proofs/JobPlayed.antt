@@ -1,0 +1,57 @@
+-- Demand 3 from the job's bytes: what translating does not refuse, a ready chip plays.
+use mathlib.Core.Path.{_≡_}
+use mathlib.Core.Bool.{not}
+use mathlib.Core.List.{List}
+use Prim.Native.Nat.{ℕ}
+use native.Mathlib.Omega.{arith}
+use lib.ListN.{length}
+use Rattle.lists.specs.Choice.{_<?_}
+use Rattle.rules.specs.declared.Kept.{Kept}
+use Rattle.rules.specs.declared.Meter.{Meter}
+use Rattle.rules.specs.Parts.{isPart, partOf}
+use Rattle.rules.specs.Status.{regsOf}
+use Rattle.rules.specs.Tape.{Rec}
+use Rattle.rules.specs.Play.{state, play}
+use Rattle.rules.specs.Job.{settingLimit, stepCount, stepsOf}
+use Rattle.rules.specs.JobRefusals.{unfit, jobRefusal}
+use Rattle.rules.specs.Records.{jobRecs}
+use Rattle.rules.specs.Ready.{Ready}
+use Rattle.laws.proofs.Accepted.{passed}
+use Rattle.demand.specs.Ignored.{ignoredIn}
+use Rattle.demand.proofs.Tapeable.{part-tapeable}
+use Rattle.demand.proofs.Fit.{Fit}
+use Rattle.demand.proofs.Accept.{JobOk, job-ok}
+use Rattle.demand.proofs.Demand3.{afterJob, demand3}
+use Rattle.demand.proofs.NoneIgnored.{none-ignored}
+use Rattle.demand.proofs.Holds.{RecsOk, recs-ok}
+
+-- none of 1 and 20 to 25
+pub accepted-ok : (part s : ℕ) (job : List ℕ) (n : ℕ) → jobRefusal part s job n .number ≡ 0 → JobOk (partOf part) s n (stepsOf job)
+unfolding jobRefusal
+accepted-ok part s job n e =
+    let e1 = passed (not (isPart part)) 1 _ (omega arith) e in
+    let e2 = passed (unfit job n) 20 _ (omega arith) (e1 .1) in
+    let e3 = passed (settingLimit <? s) 21 _ (omega arith) (e2 .1) in
+    job-ok (partOf part) s n job 0 (stepCount job) (e3 .1)
+
+-- the records of a job
+abbrev pub recsOfJob : ℕ → List ℕ → List ℕ → List Rec
+recsOfJob part job payload = jobRecs (partOf part) payload (stepsOf job)
+
+module _ (part s : ℕ) (job payload : List ℕ) (ok : jobRefusal part s job (length payload) .number ≡ 0) where
+  pub job-recs-ok : RecsOk payload (recsOfJob part job payload)
+  job-recs-ok = recs-ok payload (partOf part) (part-tapeable part) s (length payload) (stepsOf job) (accepted-ok part s job (length payload) ok)
+
+  -- "awake", "idle", "unlocked", at the setting that the job was translated for
+  module _ (kept : Kept) (ready : Ready (partOf part) s kept) (l : List ℕ) (long : length l ≡ partOf part .size) (m : Meter) where
+    fit : Fit (partOf part) (state (regsOf kept) l m)
+    fit = record { calm = record { awake = ready .awake; idle = ready .idle; unlocked = ready .unlocked }; long = long }
+
+    steps-ok : JobOk (partOf part) (regsOf kept .setting) (length payload) (stepsOf job)
+    steps-ok = rw (ready .set) (accepted-ok part s job (length payload) ok)
+
+    pub job-played : play (partOf part) (recsOfJob part job payload) (state (regsOf kept) l m) ≡ afterJob (partOf part) payload (stepsOf job) (state (regsOf kept) l m)
+    job-played = demand3 (partOf part) (part-tapeable part) payload (stepsOf job) (state (regsOf kept) l m) fit steps-ok
+
+    pub job-none-ignored : ignoredIn (partOf part) (recsOfJob part job payload) (state (regsOf kept) l m) ≡ 0
+    job-none-ignored = none-ignored (partOf part) (part-tapeable part) payload (stepsOf job) (state (regsOf kept) l m) fit steps-ok

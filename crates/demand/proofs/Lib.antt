@@ -1,0 +1,16 @@
+pub mod Patches
+pub mod Lay
+pub mod Tapeable
+pub mod Fit
+pub mod Bare
+pub mod Three
+pub mod Accept
+pub mod Address
+pub mod Rise
+pub mod Pages
+pub mod Steps
+pub mod Demand3
+pub mod NoneIgnored
+pub mod Bytes
+pub mod Holds
+pub mod JobPlayed

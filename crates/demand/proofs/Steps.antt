@@ -1,0 +1,152 @@
+-- One step of an accepted job, played: what the step means.
+use mathlib.Core.Path.{_≡_, refl, _∙_}
+use mathlib.Core.Bool.{Bool, true, false, _||_}
+use mathlib.Core.List.{List, _∷_, _++_}
+use Prim.Native.Nat.{ℕ, suc, _+_, _-_, _/_, _≤_, _<_}
+use native.Mathlib.Omega.{arith}
+use lib.ListN.{length, getD, drop, length-drop}
+use lib.Seq.{length-take-le}
+use borrow.Author.Tests.{ltb-false, leb-false, eqb-false}
+use Rattle.lists.specs.Choice.{_=?_, _<?_, _≤?_}
+use Rattle.lists.proofs.Choice.{either-false}
+use Rattle.lists.proofs.Patched.{patched-length}
+use Rattle.rules.specs.declared.EraseUnit.{EraseUnit}
+use Rattle.rules.specs.declared.EraseUnit.the-variants.{Sector, Block32, Block64, Chip}
+use Rattle.rules.specs.declared.Write.the-variants as W
+use Rattle.rules.specs.declared.Kind.the-variants.{Writes}
+use Rattle.rules.specs.declared.Regs.{Regs}
+use Rattle.rules.specs.declared.Span.{Span}
+use Rattle.rules.specs.declared.Step.{Step}
+use Rattle.rules.specs.declared.Step.the-variants.{Erase, Lay, Guard}
+use Rattle.rules.specs.Kinds.{codeOf}
+use Rattle.rules.specs.Units.{page, unitStart, unitLength}
+use Rattle.rules.specs.Part.{Part}
+use Rattle.rules.specs.Cells.{erased}
+use Rattle.rules.specs.Status.{withWel, withBusy}
+use Rattle.rules.specs.Verdict.{addressOf}
+use Rattle.rules.specs.Tape.{Rec}
+use Rattle.rules.specs.Play.{State, state, play}
+use Rattle.rules.specs.Job.{settingLimit, layBytes, meant, settingMeant, guarded, regsMeant}
+use Rattle.rules.specs.JobRefusals.{layLimit, chipNotAtZero, outside, beyond}
+use Rattle.rules.specs.Records.{eraseBytes, pagesTouched, stepRecs, stepBill}
+use Rattle.laws.proofs.Sound.{unit-end}
+use Rattle.laws.proofs.Protection.{bare-none}
+use Rattle.demand.specs.Raised.{raised}
+use Rattle.demand.proofs.Lay.{laid-length}
+use Rattle.demand.proofs.Tapeable.{Tapeable}
+use Rattle.demand.proofs.Fit.{Calm, Fit, calm-wel}
+use Rattle.demand.proofs.Three.{Says, settled-plain, three-play}
+use Rattle.demand.proofs.Accept.{StepOk}
+use Rattle.demand.proofs.Bare.{Bare, shielded-bare}
+use Rattle.demand.proofs.Address.{unit-back}
+use Rattle.demand.proofs.Rise.{counted-raised}
+use Rattle.demand.proofs.Pages.{Layable, pages-play}
+
+-- the state that a step means
+abbrev pub afterStep : Part → List ℕ → Step → State → State
+afterStep p payload w s = state (regsMeant (s .regs) w) (meant p payload (s .array) w) (raised (s .meter) (stepBill w))
+
+-- ---- what not 23 and not 24 say
+
+erase-inside : (p : Part) (u : EraseUnit) (a : ℕ) → outside p (Erase u a) ≡ false → a < p .size
+erase-inside p u a e = leb-false (p .size) a (either-false (p .size ≤? a) (chipNotAtZero u a) e .0)
+
+record Inside (p : Part) (w : Span) : Type 0 where
+  some : 0 < w .length
+  ends : w .address + w .length ≤ p .size
+
+lay-inside : (p : Part) (w : Span) → outside p (Lay w) ≡ false → Inside p w
+lay-inside p w e =
+    let q : Bool = p .size ≤? w .address in
+    let r : Bool = w .length =? 0 in
+    let t : Bool = layLimit <? w .length in
+    let a = either-false (q || r || t) (p .size <? w .address + w .length) e in
+    let b = either-false (q || r) t (a .0) in
+    let c = eqb-false (w .length) 0 (either-false q r (b .0) .1) in
+    record { some = omega arith; ends = ltb-false (p .size) (w .address + w .length) (a .1) }
+
+lay-length : (payload : List ℕ) (w : Span) → beyond (length payload) (Lay w) ≡ false → length (layBytes payload w) ≡ w .length
+lay-length payload w e =
+    let h : w .offset + w .length ≤ length payload = ltb-false _ _ e in
+    length-take-le (w .length) (drop (w .offset) payload) (omega (arith, length-drop (w .offset) payload))
+
+calm-guarded : (r : Regs) → Calm r → (g : ℕ) → Calm (guarded r g)
+calm-guarded r c g = record { awake = c .awake; idle = c .idle; unlocked = refl }
+
+erased-same : (size : ℕ) (l : List ℕ) (u : EraseUnit) (a b : ℕ) → unitStart u a ≡ unitStart u b → erased size l u a ≡ erased size l u b
+unfolding erased
+erased-same size l u a b e = rw e
+
+erased-length : (size : ℕ) (l : List ℕ) (u : EraseUnit) (a : ℕ) → unitStart u a + unitLength size u ≤ length l → length (erased size l u a) ≡ length l
+unfolding erased
+erased-length size l u a h = patched-length l (unitStart u a) (unitLength size u) _ h
+
+-- the setting that the next step's check goes by
+pub step-setting : (r : Regs) (w : Step) → regsMeant r w .setting ≡ settingMeant (r .setting) w
+step-setting r (Erase u a) = refl
+step-setting r (Lay w) = refl
+step-setting r (Guard g) = refl
+
+module _ (p : Part) (law : Tapeable p) where
+  erase-says : (u : EraseUnit) (a : ℕ) → Says p (Writes (W.Erase u)) (eraseBytes u a)
+  erase-says u a = record { some = some u; code = code u; shape = law .erase-shaped u a }
+    where
+      some : (u : EraseUnit) → 0 < length (eraseBytes u a)
+      some Sector = omega arith
+      some Block32 = omega arith
+      some Block64 = omega arith
+      some Chip = omega arith
+
+      code : (u : EraseUnit) → getD (eraseBytes u a) 0 0 ≡ codeOf (Writes (W.Erase u))
+      code Sector = refl
+      code Block32 = refl
+      code Block64 = refl
+      code Chip = refl
+
+  guard-says : (g : ℕ) → g ≤ settingLimit → Says p (Writes W.WriteStatus) (codeOf (Writes W.WriteStatus) ∷ p .guardBytes g)
+  guard-says g k = record { some = omega arith; code = refl; shape = law .guard-shaped g k }
+
+  module _ (payload : List ℕ) (s : State) (fit : Fit p s) where
+    -- the records of a step do what it means, and the records es come after them
+    pub step-play : (w : Step) → StepOk p (s .regs .setting) (length payload) w → (es : List Rec)
+        → play p (stepRecs p payload w ++ es) s ≡ play p es (afterStep p payload w s)
+    step-play (Erase u a) k es =
+        let b : List ℕ = eraseBytes u a in
+        let back : unitStart u (addressOf p b) ≡ unitStart u a = unit-back p (law .sound) u a (erase-inside p u a (k .inside)) in
+        let free : Bare p (s .regs .setting) (unitStart u (addressOf p b)) (unitLength (p .size) u) =
+        rw back (shielded-bare p (s .regs .setting) (Erase u a) (k .bare)) in
+        three-play p law s (fit .calm) (W.Erase u) b (erase-says u a) free es
+        ∙ (λ i. play p es (state (settled-plain (s .regs) (fit .calm) i) (erased-same (p .size) (s .array) u _ _ back i) (counted-raised (s .meter) (W.Erase u) i)))
+    step-play (Lay w) k es =
+        let bs : List ℕ = layBytes payload w in
+        let n : ℕ = (w .address + w .length - 1) / page - w .address / page in
+        let long : length bs ≡ w .length = lay-length payload w (k .covered) in
+        let i = lay-inside p w (k .inside) in
+        let some = i .some in
+        let ends = i .ends in
+        let free : Bare p (s .regs .setting) (w .address) (length bs) = rw long (shielded-bare p (s .regs .setting) (Lay w) (k .bare)) in
+        let q : Layable p s (w .address) (length bs) = record { some = omega arith; ends = omega arith; bare = free } in
+        let e : pagesTouched (w .address) (w .length) ≡ suc n = omega arith in
+        rw e (pages-play p law n s fit (w .address) bs q (omega arith) es)
+    step-play (Guard g) k es =
+        let b : List ℕ = codeOf (Writes W.WriteStatus) ∷ p .guardBytes g in
+        let r : Regs = s .regs in
+        let free : Bare p (r .setting) 0 0 = bare-none p (r .setting) 0 0 (λ x q t. absurd (omega arith)) in
+        let regs : withWel (withBusy (p .statusWritten (withWel r true) b) false) false ≡ withWel (guarded r g) false =
+        rw (law .guard-written (withWel r true) g (k .known)) (settled-plain (guarded r g) (calm-guarded r (fit .calm) g)) in
+        three-play p law s (fit .calm) W.WriteStatus b (guard-says g (k .known)) free es
+        ∙ (λ i. play p es (state (regs i) (s .array) (counted-raised (s .meter) W.WriteStatus i)))
+
+    -- .. and leave the chip fit for the next
+    pub step-fit : (w : Step) → StepOk p (s .regs .setting) (length payload) w → Fit p (afterStep p payload w s)
+    step-fit (Erase u a) k =
+        let e = unit-end p (law .sound) u a (erase-inside p u a (k .inside)) in
+        let long = fit .long in
+        record { calm = calm-wel (s .regs) (fit .calm) false; long = erased-length (p .size) (s .array) u a (omega arith) ∙ long }
+    step-fit (Lay w) k =
+        let e = lay-inside p w (k .inside) .ends in
+        let n = lay-length payload w (k .covered) in
+        let long = fit .long in
+        record { calm = calm-wel (s .regs) (fit .calm) false; long = laid-length (s .array) (w .address) (layBytes payload w) (omega arith) ∙ long }
+    step-fit (Guard g) k =
+        record { calm = calm-wel (guarded (s .regs) g) (calm-guarded (s .regs) (fit .calm) g) false; long = fit .long }
