@@ -1,0 +1,21 @@
+use Rattle.rules.specs.CEntries.{tbPlayed, tbReplay}
+use Rattle.rules.specs.declared.TbAnswer.{TbAnswer}
+use mathlib.Core.Path.{ap, _∙_}
+use borrow.Author.Needs.{needs}
+use Rattle.tunebriar.proofs.tb_replay.Statement.{statement}
+use Rattle.tunebriar.proofs.tb_replay.Tie as tie
+
+replay-requires : tie.Need-replay-requires
+replay-requires c κs = search needs
+
+replayed-requires : tie.Need-replayed-requires
+replayed-requires c κs = search needs
+
+same-length : tie.Need-same-length
+same-length c = search needs
+
+returns : tie.Need-returns
+returns c = ap (λ (a : TbAnswer). tbPlayed a (c .before .before .before .replay .last .1 .1 .1 .0)) (c .replayed .ensures) ∙ ap tbReplay (c .before .before .before .replay .ensures)
+
+pub tb-replay-spec : {M : Type 1} → statement M
+tb-replay-spec = tie.close (tie.spec replay-requires replayed-requires same-length returns)

@@ -1,0 +1,209 @@
+// The C entries: thin, over byte slices and numbers. include/tunebriar.h declares them.
+use rules::AtPlace;
+use rules::Event;
+use rules::Kept;
+use rules::Meter;
+use rules::Replayed;
+use rules::TbAnswer;
+use rules::TbEvent;
+use rules::TbRecord;
+use rules::Transacted;
+use rules::Verdict;
+ghost use mathlib.Core.Path.{_≡_};
+ghost use Rattle.rules.specs.Status.{flag};
+ghost use Rattle.rules.specs.Verdict.{verdictTold};
+ghost use Rattle.rules.specs.Transact.{transactTold, transactOf};
+ghost use Rattle.rules.specs.EventEntries.{eventTold, finishOf, powerCycleOf};
+ghost use Rattle.rules.specs.Replay.{replayTold, replayOf, replayFirstOf};
+ghost use Rattle.rules.specs.Tape.{readTold, readOf};
+ghost use Rattle.tunebriar.specs.Found.{tbPlain, tbFound};
+ghost use Rattle.rules.specs.CEntries.{tbAnswer, tbEvent, tbRecord, tbTransact, tbReplay, tbSeen, tbPlayed};
+
+// ---- answers as numbers
+
+fn verdict_number(v: Verdict) -> u32
+    ensures { λ n. ⌜ n ≡ verdictTold v .number ⌝ }
+{
+    match v {
+        Verdict::CarriedOut(_) => 0,
+        Verdict::Ignored(w) => w.number as u32,
+    }
+}
+
+fn transacted(kept: Kept, m: Meter, t: Transacted) -> TbAnswer
+    ensures { λ a. ⌜ a ≡ tbAnswer (transactTold kept m t) ⌝ }
+{
+    match t {
+        Transacted::Stepped(s) => {
+            let v = s.verdict;
+            let regs = s.regs;
+            let meter = s.meter;
+            TbAnswer {
+                number: verdict_number(v),
+                index: 0,
+                regs: regs,
+                meter: meter,
+            }
+        }
+        Transacted::Refused(z) => TbAnswer {
+            number: z.number as u32,
+            index: z.index as u64,
+            regs: kept,
+            meter: m,
+        },
+    }
+}
+
+fn event(kept: Kept, e: Event) -> TbEvent
+    ensures { λ a. ⌜ a ≡ tbEvent (eventTold kept e) ⌝ }
+{
+    match e {
+        Event::Passed(k) => TbEvent {
+            number: 0,
+            index: 0,
+            regs: k,
+        },
+        Event::Refused(z) => TbEvent {
+            number: z.number as u32,
+            index: z.index as u64,
+            regs: kept,
+        },
+    }
+}
+
+fn replayed(kept: Kept, m: Meter, t: Replayed) -> TbAnswer
+    ensures { λ a. ⌜ a ≡ tbAnswer (replayTold kept m t) ⌝ }
+{
+    match t {
+        Replayed::Ended(s) => {
+            let regs = s.regs;
+            let meter = s.meter;
+            TbAnswer {
+                number: 0,
+                index: 0,
+                regs: regs,
+                meter: meter,
+            }
+        }
+        Replayed::Refused(z) => TbAnswer {
+            number: z.number as u32,
+            index: z.index as u64,
+            regs: kept,
+            meter: m,
+        },
+    }
+}
+
+// ---- the entries
+
+#[no_mangle]
+pub extern "C" fn tb_transact(
+    part: u32,
+    regs: Kept,
+    meter: Meter,
+    leftover: u32,
+    wp: u32,
+    array: &mut [u8],
+    out: &mut [u8],
+    bytes: &[u8],
+) -> TbAnswer
+    ensures { λ a. ⌜ tbSeen a (now (array .exit)) (now (out .exit)) ≡ tbTransact (transactOf part regs meter (now (array .entry)) (now (out .entry)) (now (bytes .entry)) leftover wp) ⌝ }
+{
+    let t = chip::transact(part, regs, meter, leftover, wp, array, out, bytes);
+    transacted(regs, meter, t)
+}
+
+#[no_mangle]
+pub extern "C" fn tb_finish(part: u32, regs: Kept) -> TbEvent
+    ensures { λ a. ⌜ a ≡ tbEvent (finishOf part regs) ⌝ }
+{
+    event(regs, chip::finish(part, regs))
+}
+
+#[no_mangle]
+pub extern "C" fn tb_power_cycle(part: u32, regs: Kept) -> TbEvent
+    ensures { λ a. ⌜ a ≡ tbEvent (powerCycleOf part regs) ⌝ }
+{
+    event(regs, chip::power_cycle(part, regs))
+}
+
+#[no_mangle]
+pub extern "C" fn tb_replay(
+    part: u32,
+    regs: Kept,
+    meter: Meter,
+    array: &mut [u8],
+    tape: &[u8],
+) -> TbAnswer
+    ensures { λ a. ⌜ tbPlayed a (now (array .exit)) ≡ tbReplay (replayOf part regs meter (now (array .entry)) (now (tape .entry))) ⌝ }
+{
+    let t = replay::replay(part, regs, meter, array, tape);
+    replayed(regs, meter, t)
+}
+
+#[no_mangle]
+pub extern "C" fn tb_replay_first(
+    part: u32,
+    regs: Kept,
+    meter: Meter,
+    array: &mut [u8],
+    tape: &[u8],
+    k: u64,
+) -> TbAnswer
+    ensures { λ a. ⌜ tbPlayed a (now (array .exit)) ≡ tbReplay (replayFirstOf part regs meter (now (array .entry)) (now (tape .entry)) k) ⌝ }
+{
+    let t = replay::replay_first(part, regs, meter, array, tape, k as usize);
+    replayed(regs, meter, t)
+}
+
+#[no_mangle]
+pub extern "C" fn tb_read(tape: &[u8], place: u64) -> TbRecord
+    ensures { λ a. ⌜ a ≡ tbRecord (readOf (now (tape .entry)) place) ⌝ }
+{
+    let r = tape::reading_at(tape, place as usize);
+    let found = r.found;
+    let next = r.next;
+    found_record(found, next as u64)
+}
+
+// A read's answer and the place after it.
+fn found_record(found: AtPlace, next: u64) -> TbRecord
+    ensures { λ a. ⌜ a ≡ tbFound found next ⌝ }
+{
+    match found {
+        AtPlace::Transaction(s) => TbRecord {
+            kind: 0,
+            number: 0,
+            length: (s.length % 65536) as u32,
+            leftover: s.leftover as u32,
+            wp: level(s.high),
+            start: s.start as u64,
+            next: next,
+        },
+        AtPlace::Finish => plain(1, 0, next),
+        AtPlace::PowerCycle => plain(2, 0, next),
+        AtPlace::End => plain(3, 0, next),
+        AtPlace::Fault(n) => plain(4, n as u32, next),
+    }
+}
+
+fn level(high: bool) -> u32
+    ensures { λ n. ⌜ n ≡ flag high ⌝ }
+{
+    if high { 1 } else { 0 }
+}
+
+// An answer that is no transaction.
+fn plain(kind: u32, number: u32, next: u64) -> TbRecord
+    ensures { λ a. ⌜ a ≡ tbPlain kind number next ⌝ }
+{
+    TbRecord {
+        kind: kind,
+        number: number,
+        length: 0,
+        leftover: 0,
+        wp: 0,
+        start: 0,
+        next: next,
+    }
+}
