@@ -11,7 +11,7 @@ ghost use Prim.Native.Nat.{_≤_};
 ghost use lib.ListN.{getD};
 ghost use Rattle.lists.specs.Choice.{_=?_, _≤?_};
 ghost use Rattle.rules.specs.Part.{commandIn, shapedIn};
-ghost use Rattle.rules.specs.Fm25q16.{fmCommands, fmHeardAsleep, fmHeardBusy, fmArea, fmLo, fmHi, fmFirst, fmSecond, fmStatusWritten};
+ghost use Rattle.rules.specs.Fm25q16.{fmCommands, fmHeardAsleep, fmHeardBusy, fmArea, fmLo, fmHi, fmFirst, fmSecond, fmStatusWritten, fmGuardBytes};
 
 pub const SIZE: usize = 2097152;
 
@@ -190,4 +190,11 @@ pub fn status_written(r: Regs, b: &[u8]) -> Regs
         return second(t, lists::byte_at(b, 2));
     }
     t
+}
+
+pub fn guard_bytes(g: u8) -> [u8; 2]
+    requires { ⌜ g ≤ 31 ⌝ }
+    ensures { λ r. ⌜ r ≡ fmGuardBytes g ⌝ }
+{
+    [4 * g, 0]
 }

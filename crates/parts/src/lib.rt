@@ -5,6 +5,7 @@ use rules::Regs;
 mod fm25q16;
 
 ghost use mathlib.Core.Path.{_≡_};
+ghost use Prim.Native.Nat.{_≤_};
 ghost use lib.ListN.{getD};
 ghost use Rattle.rules.specs.Part.{commandOf, shaped};
 ghost use Rattle.rules.specs.Parts.{isPart, partOf};
@@ -91,4 +92,12 @@ pub fn status_written(part: u32, r: Regs, b: &[u8]) -> Regs
     ensures { λ t. ⌜ t ≡ partOf part .statusWritten r (now (b .entry)) ⌝ }
 {
     fm25q16::status_written(r, b)
+}
+
+// The status bytes that a guard sends.
+pub fn guard_bytes(part: u32, g: u8) -> [u8; 2]
+    requires { ⌜ g ≤ 31 ⌝ }
+    ensures { λ r. ⌜ r ≡ partOf part .guardBytes g ⌝ }
+{
+    fm25q16::guard_bytes(g)
 }

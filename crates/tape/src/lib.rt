@@ -185,7 +185,7 @@ fn clear(s: &mut [u8])
 }
 
 // The bytes from a on become b.
-fn put(s: &mut [u8], a: usize, b: &[u8])
+pub fn put(s: &mut [u8], a: usize, b: &[u8])
     requires { ⌜ a + length (now b) ≤ length (now s) ⌝ }
     ensures { λ _. ⌜ now (s .exit) ≡ take a (now (s .entry)) ++ now (b .entry) ++ drop (a + length (now (b .entry))) (now (s .entry)) ⌝ }
 {

@@ -1,0 +1,103 @@
+// What a job's tape costs, before it is made.
+use crate::decode;
+use rules::Bill;
+use rules::Decoded;
+use rules::Span;
+use rules::Step;
+ghost use mathlib.Core.Path.{_≡_};
+ghost use Prim.Native.Nat.{_≤_, _<_};
+ghost use Rattle.rules.specs.Job.{stepAt, stepCount, stepsOf};
+ghost use Rattle.rules.specs.JobRefusals.{jobLimit};
+ghost use Rattle.rules.specs.Records.{pagesTouched, stepBill, noBill, _plus_, billOf};
+ghost use Rattle.job.specs.Counted.{pageLimit, Short, Billable, Counted, Upto, decodedBill};
+
+pub fn pages_touched(s: Span) -> usize
+    requires { ⌜ Short s ⌝ }
+    ensures { λ r. ⌜ (r ≡ pagesTouched (s .address) (s .length)) × (r ≤ pageLimit) ⌝ }
+{
+    (s.address + s.length - 1) / 256 - s.address / 256 + 1
+}
+
+fn lay_bill(s: Span) -> Bill
+    requires { ⌜ Short s ⌝ }
+    ensures { λ b. ⌜ b ≡ stepBill (Step.Lay s) ⌝ }
+{
+    let pages = pages_touched(s);
+    Bill {
+        programs: pages as u32,
+        erases: 0,
+        writes: 0,
+        length: 792 * pages,
+    }
+}
+
+// 792 bytes are the three records of one command.
+pub fn step_bill(w: Step) -> Bill
+    requires { ⌜ Billable w ⌝ }
+    ensures { λ b. ⌜ b ≡ stepBill w ⌝ }
+{
+    match w {
+        Step::Erase(_, _) => Bill {
+            programs: 0,
+            erases: 1,
+            writes: 0,
+            length: 792,
+        },
+        Step::Lay(s) => lay_bill(s),
+        Step::Guard(_) => Bill {
+            programs: 0,
+            erases: 0,
+            writes: 1,
+            length: 792,
+        },
+    }
+}
+
+fn no_bill() -> Bill
+    ensures { λ b. ⌜ b ≡ noBill ⌝ }
+{
+    Bill {
+        programs: 0,
+        erases: 0,
+        writes: 0,
+        length: 0,
+    }
+}
+
+fn bill_at(job: &[u8], i: usize) -> Bill
+    requires { ⌜ Counted (now job) × (i < stepCount (now job)) ⌝ }
+    ensures { λ b. ⌜ (b ≡ decodedBill (stepAt (now (job .entry)) i)) × Upto b 1 ⌝ }
+{
+    let d = decode::step_at(job, i);
+    match d {
+        Decoded::Good(w) => step_bill(w),
+        Decoded::Bad => no_bill(),
+    }
+}
+
+fn add(a: Bill, b: Bill) -> Bill
+    requires { ⌜ Upto a jobLimit × Upto b 1 ⌝ }
+    ensures { λ t. ⌜ t ≡ a plus b ⌝ }
+{
+    Bill {
+        programs: a.programs + b.programs,
+        erases: a.erases + b.erases,
+        writes: a.writes + b.writes,
+        length: a.length + b.length,
+    }
+}
+
+// The bills of all steps, added up.
+pub fn bill_of(job: &[u8]) -> Bill
+    requires { ⌜ Counted (now job) ⌝ }
+    ensures { λ b. ⌜ b ≡ billOf (stepsOf (now (job .entry))) ⌝ }
+{
+    let n = job.len() / 16;
+    let mut total = no_bill();
+    let mut i = 0;
+    while i < n {
+        total = add(total, bill_at(job, i));
+        i += 1;
+    }
+    total
+}

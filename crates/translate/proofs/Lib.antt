@@ -1,0 +1,4 @@
+pub mod Answer
+pub mod Pages
+pub mod Splices
+pub mod Whole

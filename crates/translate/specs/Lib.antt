@@ -1,0 +1,2 @@
+pub mod Spliced
+pub mod Writable
