@@ -3,11 +3,15 @@ use rules::AtPlace;
 use rules::Event;
 use rules::Kept;
 use rules::Meter;
+use rules::Quoted;
 use rules::Replayed;
 use rules::TbAnswer;
+use rules::TbBill;
 use rules::TbEvent;
 use rules::TbRecord;
+use rules::TbTape;
 use rules::Transacted;
+use rules::Translated;
 use rules::Verdict;
 ghost use mathlib.Core.Path.{_≡_};
 ghost use Rattle.rules.specs.Status.{flag};
@@ -17,7 +21,9 @@ ghost use Rattle.rules.specs.EventEntries.{eventTold, finishOf, powerCycleOf};
 ghost use Rattle.rules.specs.Replay.{replayTold, replayOf, replayFirstOf};
 ghost use Rattle.rules.specs.Tape.{readTold, readOf};
 ghost use Rattle.tunebriar.specs.Found.{tbPlain, tbFound};
-ghost use Rattle.rules.specs.CEntries.{tbAnswer, tbEvent, tbRecord, tbTransact, tbReplay, tbSeen, tbPlayed};
+ghost use lib.ListN.{length};
+ghost use Rattle.rules.specs.Translate.{translateTold, translateOf, quoteTold, quoteOf};
+ghost use Rattle.rules.specs.CEntries.{tbAnswer, tbEvent, tbTape, tbBill, tbRecord, tbTransact, tbReplay, tbTranslate, tbSeen, tbPlayed, tbTranslated};
 
 // ---- answers as numbers
 
@@ -206,4 +212,67 @@ fn plain(kind: u32, number: u32, next: u64) -> TbRecord
         start: 0,
         next: next,
     }
+}
+
+// ---- jobs
+
+fn translated(t: Translated) -> TbTape
+    ensures { λ a. ⌜ a ≡ tbTape (translateTold t) ⌝ }
+{
+    match t {
+        Translated::Written(n) => TbTape {
+            number: 0,
+            index: 0,
+            length: n as u64,
+        },
+        Translated::Refused(z) => TbTape {
+            number: z.number as u32,
+            index: z.index as u64,
+            length: 0,
+        },
+    }
+}
+
+fn quoted(q: Quoted) -> TbBill
+    ensures { λ a. ⌜ a ≡ tbBill (quoteTold q) ⌝ }
+{
+    match q {
+        Quoted::Billed(b) => TbBill {
+            number: 0,
+            index: 0,
+            programs: b.programs,
+            erases: b.erases,
+            writes: b.writes,
+            length: b.length as u64,
+        },
+        Quoted::Refused(z) => TbBill {
+            number: z.number as u32,
+            index: z.index as u64,
+            programs: 0,
+            erases: 0,
+            writes: 0,
+            length: 0,
+        },
+    }
+}
+
+#[no_mangle]
+pub extern "C" fn tb_translate(
+    part: u32,
+    setting: u32,
+    job: &[u8],
+    payload: &[u8],
+    tape: &mut [u8],
+) -> TbTape
+    ensures { λ a. ⌜ tbTranslated a (now (tape .exit)) ≡ tbTranslate (translateOf part setting (now (job .entry)) (now (payload .entry)) (now (tape .entry))) ⌝ }
+{
+    let t = translate::translate(part, setting, job, payload, tape);
+    translated(t)
+}
+
+#[no_mangle]
+pub extern "C" fn tb_quote(part: u32, setting: u32, job: &[u8], payload: &[u8]) -> TbBill
+    ensures { λ a. ⌜ a ≡ tbBill (quoteOf part setting (now (job .entry)) (length (now (payload .entry)))) ⌝ }
+{
+    quoted(job::quote(part, setting, job, payload.len()))
 }
