@@ -11,3 +11,4 @@ pub mod RoundTrip
 pub mod Formed
 pub mod Unique
 pub mod Prefix
+pub mod JobMeans
