@@ -28,6 +28,7 @@ use Rattle.rules.specs.Records.{jobRecs, billOf}
 use Rattle.rules.specs.Translate.{tapeOf, translateRefusal, TranslateSeen, translateTold, translateSeen, translateBy, translateOf, quoteTold, quoteBy, quoteOf}
 use Rattle.rules.specs.Ready.{Ready, Roomy}
 use Rattle.laws.proofs.Accepted.{passed}
+use Rattle.claims.specs.Means.{tapeWritten, figures, Means}
 use Rattle.tape.proofs.Encoded.{RecsOk}
 use Rattle.tape.proofs.Round.{encode-whole, encode-records, encode-recs, encode-unfaulted}
 use Rattle.demand.specs.Raised.{raised}
@@ -36,37 +37,6 @@ use Rattle.demand.proofs.Demand3.{afterJob}
 use Rattle.demand.proofs.JobPlayed.{job-played, job-none-ignored}
 use Rattle.replay.proofs.Checked.{neither, replay-served}
 use Rattle.translate.proofs.Whole.{job-ok, tape-long}
-
--- ---- the statement
-
--- the tape: the bytes that `translate` wrote
-abbrev pub tapeWritten : ℕ → ℕ → List ℕ → List ℕ → List ℕ → List ℕ
-tapeWritten part s job payload buffer =
-    take (translateOf part s job payload buffer .answer .length) (translateOf part s job payload buffer .tape)
-
--- the figures that the job alone gives
-abbrev pub figures : ℕ → ℕ → List ℕ → List ℕ → Bill
-figures part s job payload = quoteOf part s job (length payload) .bill
-
--- the tape t means the job: played on kept, m and l it is served, leaves the array and the registers of the job's own
--- meaning, raises the meter by the job's figures, and no transaction of it is ignored
-pub record Means (part s : ℕ) (job payload t : List ℕ) (kept : Kept) (m : Meter) (l : List ℕ) : Type 0 where
-  pub played :
-      replayOf part kept m l t
-      ≡ replaySeen
-      (record {
-        served = true;
-        number = 0;
-        code = 0;
-        index = 0;
-        regs = keptOf (allRegsMeant (regsOf kept) (stepsOf job));
-        meter = raised m (figures part s job payload);
-      })
-      (arrayMeant (partOf part) payload l (stepsOf job))
-  pub none-ignored : ignoredIn (partOf part) (recsOf t) (state (regsOf kept) l m) ≡ 0
-  pub long : length t ≡ figures part s job payload .length
-
--- ---- the proof
 
 -- a tape that is served is the job's tape
 served-accepted : (z : Refusal) (w buffer : List ℕ) → translateBy z w buffer .answer .served ≡ true → accepted z ≡ true
