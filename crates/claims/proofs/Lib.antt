@@ -12,3 +12,4 @@ pub mod Formed
 pub mod Unique
 pub mod Prefix
 pub mod JobMeans
+pub mod ReadThrough
