@@ -259,3 +259,11 @@ pub fn first_of(tape: &[u8]) -> AtPlace
     let mut r = new(tape);
     read(&mut r)
 }
+
+// The answer of a reader of the tape that has come to a place. Its callers too need know nothing of readers.
+pub fn read_from(tape: &[u8], place: usize) -> AtPlace
+    ensures { λ t. ⌜ t ≡ readAt (now (tape .entry)) place ⌝ }
+{
+    let mut r = Reader { bytes: tape, place };
+    read(&mut r)
+}
