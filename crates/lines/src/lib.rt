@@ -1,0 +1,168 @@
+// The lines of the listing program, and what it refuses. The program only writes them out.
+use lists::Found;
+use rules::AtPlace;
+use rules::Refusal;
+use rules::Sent;
+ghost use mathlib.Core.Path.{_≡_};
+ghost use mathlib.Core.List.{[], _∷_, _++_};
+ghost use Prim.Native.Nat.{_+_, _≤_, _<_};
+ghost use lib.ListN.{length};
+ghost use Rattle.rules.specs.Listing.{digit, digits3, digits4, hexDigit, space, lineFeed, transactionText, recordLine, refusedLine};
+ghost use Rattle.lines.specs.Fault.{faultOf};
+ghost use Rattle.lines.specs.Line.{indexed, Laid};
+
+// ---- digits, as bytes of text
+
+fn digit(n: usize) -> u8
+    ensures { λ r. ⌜ r ≡ digit n ⌝ }
+{
+    (48 + n % 10) as u8
+}
+
+// Upper case.
+fn hex_digit(n: u8) -> u8
+    requires { ⌜ n < 16 ⌝ }
+    ensures { λ r. ⌜ r ≡ hexDigit n ⌝ }
+{
+    if n < 10 { 48 + n } else { 55 + n }
+}
+
+// ---- the parts of a line
+
+// The index, and a space.
+fn index_text(p: usize) -> [u8; 5]
+    ensures { λ r. ⌜ r ≡ digits4 p ++ space ∷ [] ⌝ }
+{
+    [
+        digit(p / 1000),
+        digit(p / 100),
+        digit(p / 10),
+        digit(p),
+        b' ',
+    ]
+}
+
+// T with its length n; a and b stand for the command.
+fn command_text(a: u8, b: u8, n: usize) -> [u8; 9]
+    ensures { λ r. ⌜ r ≡ 0x54 ∷ space ∷ a ∷ b ∷ space ∷ digits3 n ++ lineFeed ∷ [] ⌝ }
+{
+    [
+        b'T',
+        b' ',
+        a,
+        b,
+        b' ',
+        digit(n / 100),
+        digit(n / 10),
+        digit(n),
+        b'\n',
+    ]
+}
+
+// Where there is no whole byte, dashes stand for the command.
+fn transaction_text(tape: &[u8], sent: Sent) -> [u8; 9]
+    ensures { λ r. ⌜ r ≡ transactionText (now (tape .entry)) sent ++ lineFeed ∷ [] ⌝ }
+{
+    let n = sent.length;
+    if n == 0 {
+        return command_text(b'-', b'-', n);
+    }
+    let c = lists::byte_at(tape, sent.start);
+    command_text(hex_digit(c / 16 % 16), hex_digit(c % 16), n)
+}
+
+fn refused_text(number: usize, index: usize) -> [u8; 16]
+    ensures { λ r. ⌜ r ≡ refusedLine number index ⌝ }
+{
+    [
+        b'r',
+        b'e',
+        b'f',
+        b'u',
+        b's',
+        b'e',
+        b'd',
+        b' ',
+        digit(number / 10),
+        digit(number),
+        b' ',
+        digit(index / 1000),
+        digit(index / 100),
+        digit(index / 10),
+        digit(index),
+        b'\n',
+    ]
+}
+
+// ---- lines, each at the front of the line that is lent; the answer is how long it is
+
+// The index, and then the text.
+fn put_indexed(line: &mut [u8], p: usize, text: &[u8]) -> usize
+    requires { ⌜ 5 + length (now text) ≤ length (now line) ⌝ }
+    ensures { λ r. ⌜ Laid r (now (line .exit)) (indexed p (now (text .entry))) (now (line .entry)) ⌝ }
+{
+    let head = index_text(p);
+    tape::put(line, 0, &head);
+    tape::put(line, 5, text);
+    5 + text.len()
+}
+
+// The line of record p, which a reader gives.
+pub fn record_line(tape: &[u8], p: usize, line: &mut [u8]) -> usize
+    requires { ⌜ 14 ≤ length (now line) ⌝ }
+    ensures { λ r. ⌜ Laid r (now (line .exit)) (recordLine (now (tape .entry)) p) (now (line .entry)) ⌝ }
+{
+    let found = tape::read_from(tape, p);
+    match found {
+        AtPlace::Transaction(sent) => {
+            let text = transaction_text(tape, sent);
+            put_indexed(line, p, &text)
+        }
+        AtPlace::Finish => put_indexed(line, p, b"F\n"),
+        AtPlace::PowerCycle => put_indexed(line, p, b"P\n"),
+        // A record that is there and good is no end and no fault.
+        AtPlace::End => put_indexed(line, p, b"\n"),
+        AtPlace::Fault(_) => put_indexed(line, p, b"\n"),
+    }
+}
+
+// The line of a fault.
+pub fn refused_line(number: u8, index: usize, line: &mut [u8]) -> usize
+    requires { ⌜ 16 ≤ length (now line) ⌝ }
+    ensures { λ r. ⌜ Laid r (now (line .exit)) (refusedLine number index) (now (line .entry)) ⌝ }
+{
+    let text = refused_text(number as usize, index);
+    tape::put(line, 0, &text);
+    text.len()
+}
+
+// ---- the whole tape, before the first line
+
+// 30 by length, 30, then 31; number 0 is none.
+pub fn fault_of(tape: &[u8]) -> Refusal
+    ensures { λ z. ⌜ z ≡ faultOf (now (tape .entry)) ⌝ }
+{
+    if 65472 < tape.len() {
+        return Refusal {
+            number: 30,
+            index: 0,
+        };
+    }
+    if !tape::is_whole(tape) {
+        return Refusal {
+            number: 30,
+            index: 0,
+        };
+    }
+    let found = tape::first_bad(tape);
+    match found {
+        Found::At(i) => Refusal {
+            number: 31,
+            index: i,
+        },
+        Found::Nothing => Refusal {
+            number: 0,
+            index: 0,
+        },
+    }
+}
