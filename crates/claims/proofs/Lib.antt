@@ -13,3 +13,8 @@ pub mod Unique
 pub mod Prefix
 pub mod JobMeans
 pub mod ReadThrough
+pub mod UniqueC
+pub mod UniqueHeld
+pub mod RegsMeant
+pub mod JobRefused
+pub mod NumbersTell

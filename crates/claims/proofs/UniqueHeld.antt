@@ -1,0 +1,45 @@
+-- Document 01, "How tightly an answer is pinned", of what is brought up to date where it lies: the caller's meter, and the
+-- reader of a tape. No second answer fits, and no other contents.
+use mathlib.Core.Path.{_≡_}
+use mathlib.Core.List.{List}
+use Prim.Native.Nat.{ℕ}
+use denote.Ref.{RefT}
+use Rattle.rules.specs.declared.Meter.{Meter}
+use Rattle.rules.specs.declared.Metered.{Metered}
+use Rattle.rules.specs.declared.Verdict.{Verdict}
+use Rattle.rules.specs.declared.AtPlace.{AtPlace}
+use Rattle.rules.specs.Counts.{meteredOf}
+use Rattle.rules.specs.Tape.{readAt}
+use Rattle.tape.specs.declared.Reader.{Reader}
+use Rattle.tape.specs.Moves.{found, after}
+use Rattle.claims.proofs.UniqueC.{same}
+
+-- an answer, and what is left where it lies
+both-same : {A B : Type 0} (v : A) (w : B) (t u : A) (x y : B) → (t ≡ v) × (x ≡ w) → (u ≡ v) × (y ≡ w) → (t ≡ u) × (x ≡ y)
+both-same v w t u x y p q = (same v t u (p .0) (q .0), same w x y (p .1) (q .1))
+
+-- ---- the meter
+
+pub metered-unique : (m : Meter) (v : Verdict) (t u : Metered) → t ≡ meteredOf m v → u ≡ meteredOf m v → t ≡ u
+metered-unique m v = same (meteredOf m v)
+
+pub count-in-unique : (m : Meter) (v : Verdict) (n k : ℕ) (m₁ m₂ : Meter)
+    → (n ≡ meteredOf m v .number) × (m₁ ≡ meteredOf m v .meter) → (k ≡ meteredOf m v .number) × (m₂ ≡ meteredOf m v .meter)
+    → (n ≡ k) × (m₁ ≡ m₂)
+count-in-unique m v = both-same (meteredOf m v .number) (meteredOf m v .meter)
+
+-- ---- the reader: the caller's bytes that it keeps hold of, and its place
+
+pub new-unique : (bytes : RefT (List ℕ)) (r s : Reader) → (r .bytes ≡ bytes) × (r .place ≡ 0) → (s .bytes ≡ bytes) × (s .place ≡ 0) → r ≡ s
+new-unique bytes r s p q =
+    let e = both-same bytes 0 (r .bytes) (s .bytes) (r .place) (s .place) p q in
+    λ i. record { bytes = e .0 i; place = e .1 i }
+
+pub place-unique : (r : Reader) (n k : ℕ) → n ≡ r .place → k ≡ r .place → n ≡ k
+place-unique r = same (r .place)
+
+pub reader-read-unique : (r : Reader) (t u : AtPlace) (r₁ r₂ : Reader) → (t ≡ found r) × (r₁ ≡ after r) → (u ≡ found r) × (r₂ ≡ after r) → (t ≡ u) × (r₁ ≡ r₂)
+reader-read-unique r = both-same (found r) (after r)
+
+pub first-of-unique : (tape : List ℕ) (t u : AtPlace) → t ≡ readAt tape 0 → u ≡ readAt tape 0 → t ≡ u
+first-of-unique tape = same (readAt tape 0)
