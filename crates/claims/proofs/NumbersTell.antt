@@ -9,6 +9,7 @@ use lib.Dec.{eqb}
 use lib.ListN.{length, getD}
 use borrow.Author.Tests.{eq-eqb, eqb-true, eqb-false, le-leb}
 use Rattle.lists.specs.Choice.{if_then_else_, _=?_, _≤?_}
+use Rattle.lists.proofs.Choice.{either-false}
 use Rattle.lists.specs.declared.Found.{Found}
 use Rattle.lists.specs.declared.Found.the-variants.{At, Nothing}
 use Rattle.rules.specs.declared.Kept.{Kept}
@@ -17,13 +18,16 @@ use Rattle.rules.specs.declared.Regs.{Regs}
 use Rattle.rules.specs.declared.Refusal.{Refusal}
 use Rattle.rules.specs.declared.Decoded.{Decoded}
 use Rattle.rules.specs.declared.Decoded.the-variants.{Good, Bad}
+use Rattle.rules.specs.declared.Kind.{Kind}
+use Rattle.rules.specs.declared.Command.the-variants.{Known}
 use Rattle.rules.specs.declared.Verdict.{Verdict}
 use Rattle.rules.specs.declared.Verdict.the-variants.{CarriedOut, Ignored}
-use Rattle.rules.specs.Part.{Part}
+use Rattle.rules.specs.Kinds.{codeOf}
+use Rattle.rules.specs.Part.{Part, commandOf}
 use Rattle.rules.specs.Parts.{partOf}
 use Rattle.rules.specs.Status.{regsOf}
 use Rattle.rules.specs.Verdict.{verdictTold, verdictOf}
-use Rattle.rules.specs.Transaction.{turnOf}
+use Rattle.rules.specs.Transaction.{turnBy, turnOf}
 use Rattle.rules.specs.Refusals.{refusal, accepted, _orElse_, transactRefusal, eventRefusal}
 use Rattle.rules.specs.Transact.{TransactSeen, isHigh, transactServed, transactRefused, transactBy, transactOf}
 use Rattle.rules.specs.EventEntries.{EventTold, eventBy, finishOf, powerCycleOf}
@@ -32,6 +36,8 @@ use Rattle.rules.specs.Replay.{badRecord, recordsRefusal, replayRefusal, Replay
 use Rattle.rules.specs.Job.{stepAt, stepCount}
 use Rattle.rules.specs.JobRefusals.{stepNumber, decodedNumber, settingAfter, stepsRefusal, jobRefusal}
 use Rattle.rules.specs.Translate.{translateRefusal, TranslateSeen, translateBy, translateOf, BillTold, quoteBy, quoteOf}
+use Rattle.rules.specs.CEntries.{tbEvent, tbBill, tbTransact, tbReplay, tbTranslate}
+use Rattle.laws.proofs.CarriedOut.{carried-passed}
 use Rattle.claims.proofs.Choices.{by-choice, either-true}
 use Rattle.claims.proofs.Ignored.{ignored-number}
 
@@ -122,3 +128,168 @@ transact-number-tells part kept m l o b x wp =
     tells (λ (s : TransactSeen). s .answer .served) (λ (s : TransactSeen). s .answer .number) VerdictNumber (1 ∷ 2 ∷ 3 ∷ 4 ∷ 5 ∷ 6 ∷ 7 ∷ [])
     (transactRefusal part (length l) kept (length b) x (length o) m) _ _ refl
     (verdict-number (partOf part) (regsOf kept) b x (isHigh wp) _ refl) refl refl (transact-row part (length l) kept (length b) x (length o) m)
+
+-- ---- finish and power cycle: 0 against 1 and 3
+
+event-tells : (part : ℕ) (kept : Kept) (r : Regs)
+    → Tells Zero (1 ∷ 3 ∷ []) (eventBy (eventRefusal part kept) kept r .served) (eventBy (eventRefusal part kept) kept r .number)
+unfolding eventBy eventRefusal
+event-tells part kept r =
+    tells (λ (t : EventTold). t .served) (λ (t : EventTold). t .number) Zero (1 ∷ 3 ∷ []) (eventRefusal part kept) _ _ refl refl refl refl
+    (check num _ (refusal 1) _ _ (check num _ (refusal 3) _ _ no-refusal))
+
+pub finish-number-tells : (part : ℕ) (kept : Kept) → Tells Zero (1 ∷ 3 ∷ []) (finishOf part kept .served) (finishOf part kept .number)
+unfolding finishOf
+finish-number-tells part kept = event-tells part kept _
+
+pub power-cycle-number-tells : (part : ℕ) (kept : Kept) → Tells Zero (1 ∷ 3 ∷ []) (powerCycleOf part kept .served) (powerCycleOf part kept .number)
+unfolding powerCycleOf
+power-cycle-number-tells part kept = event-tells part kept _
+
+-- ---- replay, of all records or of the first k: 0 against 1, 2, 3, 30, 31 and 7
+
+bad-row : (f : Found) → OneOf (31 ∷ 0 ∷ []) (badRecord f .number)
+unfolding OneOf
+bad-row (At i) = inl refl
+bad-row Nothing = inr (inl refl)
+
+replay-row : (part al : ℕ) (kept : Kept) (m : Meter) (t : List ℕ) → OneOf (1 ∷ 2 ∷ 3 ∷ 30 ∷ 31 ∷ 7 ∷ 0 ∷ []) (replayRefusal part al kept m t .number)
+unfolding replayRefusal recordsRefusal
+replay-row part al kept m t =
+    check num _ (refusal 1) _ _ (check num _ (refusal 2) _ _ (check num _ (refusal 3) _ _ (check num _ (refusal 30) _ _
+    (else-row (31 ∷ []) (7 ∷ 0 ∷ []) (badRecord (firstBad t)) _ (bad-row (firstBad t)) (check num _ (refusal 7) _ _ no-refusal)))))
+
+pub replay-first-number-tells : (part : ℕ) (kept : Kept) (m : Meter) (l t : List ℕ) (k : ℕ)
+    → Tells Zero (1 ∷ 2 ∷ 3 ∷ 30 ∷ 31 ∷ 7 ∷ []) (replayFirstOf part kept m l t k .answer .served) (replayFirstOf part kept m l t k .answer .number)
+unfolding replayFirstOf replayBy replayServed replayRefused
+replay-first-number-tells part kept m l t k =
+    tells (λ (s : ReplaySeen). s .answer .served) (λ (s : ReplaySeen). s .answer .number) Zero (1 ∷ 2 ∷ 3 ∷ 30 ∷ 31 ∷ 7 ∷ [])
+    (replayRefusal part (length l) kept m t) _ _ refl refl refl refl (replay-row part (length l) kept m t)
+
+pub replay-number-tells : (part : ℕ) (kept : Kept) (m : Meter) (l t : List ℕ)
+    → Tells Zero (1 ∷ 2 ∷ 3 ∷ 30 ∷ 31 ∷ 7 ∷ []) (replayOf part kept m l t .answer .served) (replayOf part kept m l t .answer .number)
+unfolding replayOf
+replay-number-tells part kept m l t = replay-first-number-tells part kept m l t _
+
+-- ---- translate and quote: 0 against 1, 20 to 25, and 26 of translate alone
+
+decoded-row : (p : Part) (s pl : ℕ) (d : Decoded) → OneOf (22 ∷ 23 ∷ 24 ∷ 25 ∷ 0 ∷ []) (decodedNumber p s pl d)
+unfolding OneOf stepNumber
+decoded-row p s pl Bad = inl refl
+decoded-row p s pl (Good w) =
+    inr (check (λ n. n) _ 23 _ (24 ∷ 25 ∷ 0 ∷ []) (check (λ n. n) _ 24 _ (25 ∷ 0 ∷ []) (check (λ n. n) _ 25 0 (0 ∷ []) no-refusal)))
+
+steps-row : (p : Part) (s pl : ℕ) (job : List ℕ) (i n : ℕ) → OneOf (22 ∷ 23 ∷ 24 ∷ 25 ∷ 0 ∷ []) (stepsRefusal p s pl job i n .number)
+unfolding stepsRefusal _orElse_
+steps-row p s pl job i zero = later (22 ∷ 23 ∷ 24 ∷ 25 ∷ []) (0 ∷ []) 0 no-refusal
+steps-row p s pl job i (suc n) =
+    by-choice (λ (z : Refusal). OneOf (22 ∷ 23 ∷ 24 ∷ 25 ∷ 0 ∷ []) (z .number)) _ _ _
+    (steps-row p (settingAfter s (stepAt job i)) pl job (suc i) n) (decoded-row p s pl (stepAt job i))
+
+job-row : (part s : ℕ) (job : List ℕ) (pl : ℕ) → OneOf (1 ∷ 20 ∷ 21 ∷ 22 ∷ 23 ∷ 24 ∷ 25 ∷ 0 ∷ []) (jobRefusal part s job pl .number)
+unfolding jobRefusal
+job-row part s job pl =
+    check num _ (refusal 1) _ _ (check num _ (refusal 20) _ _ (check num _ (refusal 21) _ _ (steps-row (partOf part) s pl job 0 (stepCount job))))
+
+pub translate-number-tells : (part s : ℕ) (job payload tape : List ℕ)
+    → Tells Zero (1 ∷ 20 ∷ 21 ∷ 22 ∷ 23 ∷ 24 ∷ 25 ∷ 26 ∷ []) (translateOf part s job payload tape .answer .served) (translateOf part s job payload tape .answer .number)
+unfolding translateOf translateBy translateRefusal
+translate-number-tells part s job payload tape =
+    tells (λ (w : TranslateSeen). w .answer .served) (λ (w : TranslateSeen). w .answer .number) Zero (1 ∷ 20 ∷ 21 ∷ 22 ∷ 23 ∷ 24 ∷ 25 ∷ 26 ∷ [])
+    (translateRefusal part s job payload (length tape)) _ _ refl refl refl refl
+    (else-row (1 ∷ 20 ∷ 21 ∷ 22 ∷ 23 ∷ 24 ∷ 25 ∷ []) (26 ∷ 0 ∷ []) (jobRefusal part s job (length payload)) _ (job-row part s job (length payload))
+    (check num _ (refusal 26) _ _ no-refusal))
+
+pub quote-number-tells : (part s : ℕ) (job : List ℕ) (pl : ℕ)
+    → Tells Zero (1 ∷ 20 ∷ 21 ∷ 22 ∷ 23 ∷ 24 ∷ 25 ∷ []) (quoteOf part s job pl .served) (quoteOf part s job pl .number)
+unfolding quoteOf quoteBy
+quote-number-tells part s job pl =
+    tells (λ (t : BillTold). t .served) (λ (t : BillTold). t .number) Zero (1 ∷ 20 ∷ 21 ∷ 22 ∷ 23 ∷ 24 ∷ 25 ∷ [])
+    (jobRefusal part s job pl) _ _ refl refl refl refl (job-row part s job pl)
+
+-- ---- so that `served` can be had back from the number
+
+-- f holds of one of a row
+unfoldable pub holdsIn : (ℕ → Bool) → List ℕ → Bool
+holdsIn f [] = false
+holdsIn f (k ∷ ks) = f k || holdsIn f ks
+
+none-holds : (f : ℕ → Bool) (row : List ℕ) (n : ℕ) → holdsIn f row ≡ false → OneOf row n → f n ≡ false
+unfolding OneOf holdsIn
+none-holds f [] n h k = absurd k
+none-holds f (x ∷ row) n h k =
+    let e = either-false (f x) (holdsIn f row) h in
+    ⊎-elim (λ q. ap f q ∙ e .0) (λ q. none-holds f row n (e .1) q) k
+
+-- a test that holds of all that Fine says, and of no refusal of the row
+pub numbers-tell : (Fine : ℕ → Type 0) (row : List ℕ) (f : ℕ → Bool) → ((n : ℕ) → Fine n → f n ≡ true) → holdsIn f row ≡ false
+    → (served : Bool) (number : ℕ) → Tells Fine row served number → served ≡ f number
+numbers-tell Fine row f h k true number t = sym (h number (t .of-served refl))
+numbers-tell Fine row f h k false number t = sym (none-holds f row number k (t .of-refused refl))
+
+abbrev pub isVerdict : ℕ → Bool
+isVerdict n = (n =? 0) || (10 ≤? n)
+
+verdict-passes : (n : ℕ) → VerdictNumber n → isVerdict n ≡ true
+verdict-passes n = ⊎-elim (λ e. either-true (n =? 0) (10 ≤? n) .1 (inl (eq-eqb n 0 e))) (λ h. either-true (n =? 0) (10 ≤? n) .1 (inr (le-leb 10 n (h .0))))
+
+pub transact-served-told : (part : ℕ) (kept : Kept) (m : Meter) (l o b : List ℕ) (x wp : ℕ)
+    → transactOf part kept m l o b x wp .answer .served ≡ isVerdict (tbTransact (transactOf part kept m l o b x wp) .answer .number)
+unfolding holdsIn
+transact-served-told part kept m l o b x wp =
+    numbers-tell VerdictNumber (1 ∷ 2 ∷ 3 ∷ 4 ∷ 5 ∷ 6 ∷ 7 ∷ []) isVerdict verdict-passes refl _ _
+    (transact-number-tells part kept m l o b x wp)
+
+-- 0, and no refusal of a row without 0
+zero-tells : (row : List ℕ) → holdsIn (λ n. n =? 0) row ≡ false → (served : Bool) (number : ℕ) → Tells Zero row served number → served ≡ (number =? 0)
+zero-tells row = numbers-tell Zero row (λ n. n =? 0) (λ n e. eq-eqb n 0 e)
+
+pub finish-served-told : (part : ℕ) (kept : Kept) → finishOf part kept .served ≡ (tbEvent (finishOf part kept) .number =? 0)
+unfolding holdsIn
+finish-served-told part kept = zero-tells (1 ∷ 3 ∷ []) refl _ _ (finish-number-tells part kept)
+
+pub power-cycle-served-told : (part : ℕ) (kept : Kept) → powerCycleOf part kept .served ≡ (tbEvent (powerCycleOf part kept) .number =? 0)
+unfolding holdsIn
+power-cycle-served-told part kept = zero-tells (1 ∷ 3 ∷ []) refl _ _ (power-cycle-number-tells part kept)
+
+pub replay-first-served-told : (part : ℕ) (kept : Kept) (m : Meter) (l t : List ℕ) (k : ℕ)
+    → replayFirstOf part kept m l t k .answer .served ≡ (tbReplay (replayFirstOf part kept m l t k) .answer .number =? 0)
+unfolding holdsIn
+replay-first-served-told part kept m l t k =
+    zero-tells (1 ∷ 2 ∷ 3 ∷ 30 ∷ 31 ∷ 7 ∷ []) refl _ _ (replay-first-number-tells part kept m l t k)
+
+pub replay-served-told : (part : ℕ) (kept : Kept) (m : Meter) (l t : List ℕ)
+    → replayOf part kept m l t .answer .served ≡ (tbReplay (replayOf part kept m l t) .answer .number =? 0)
+unfolding replayOf
+replay-served-told part kept m l t = replay-first-served-told part kept m l t _
+
+pub translate-served-told : (part s : ℕ) (job payload tape : List ℕ)
+    → translateOf part s job payload tape .answer .served ≡ (tbTranslate (translateOf part s job payload tape) .answer .number =? 0)
+unfolding holdsIn
+translate-served-told part s job payload tape =
+    zero-tells (1 ∷ 20 ∷ 21 ∷ 22 ∷ 23 ∷ 24 ∷ 25 ∷ 26 ∷ []) refl _ _ (translate-number-tells part s job payload tape)
+
+pub quote-served-told : (part s : ℕ) (job : List ℕ) (pl : ℕ) → quoteOf part s job pl .served ≡ (tbBill (quoteOf part s job pl) .number =? 0)
+unfolding holdsIn
+quote-served-told part s job pl =
+    zero-tells (1 ∷ 20 ∷ 21 ∷ 22 ∷ 23 ∷ 24 ∷ 25 ∷ []) refl _ _ (quote-number-tells part s job pl)
+
+-- ---- and the kind of what was carried out from the first byte
+
+pub kind-told : (part : ℕ) (kept : Kept) (m : Meter) (l o b : List ℕ) (x wp : ℕ)
+    → transactOf part kept m l o b x wp .answer .served ≡ true → transactOf part kept m l o b x wp .answer .number ≡ 0
+    → (k : Kind) × (commandOf (partOf part) (getD b 0 0) ≡ Known k) × (transactOf part kept m l o b x wp .answer .code ≡ codeOf k)
+unfolding transactOf transactBy transactServed transactRefused turnOf if_then_else_
+kind-told part kept m l o b x wp = go (accepted z) (verdictOf (partOf part) (regsOf kept) b x (isHigh wp)) refl
+  where
+    z : Refusal
+    z = transactRefusal part (length l) kept (length b) x (length o) m
+
+    seen : Bool → Verdict → TransactSeen
+    seen t v = if t then transactServed kept m o b (turnBy (partOf part) (regsOf kept) l b v) else transactRefused kept m l o z
+
+    go : (t : Bool) (v : Verdict) → verdictOf (partOf part) (regsOf kept) b x (isHigh wp) ≡ v → seen t v .answer .served ≡ true → seen t v .answer .number ≡ 0
+        → (k : Kind) × (commandOf (partOf part) (getD b 0 0) ≡ Known k) × (seen t v .answer .code ≡ codeOf k)
+    go true (CarriedOut k) e s n = (k, carried-passed (partOf part) (regsOf kept) b x (isHigh wp) k e .known, refl)
+    go true (Ignored w) e s n = let h = ignored-number (partOf part) (regsOf kept) b x (isHigh wp) w e in absurd (omega arith)
+    go false v e s n = let c : _≡_ {A = ℕ} 0 1 = cc in absurd (omega arith)
