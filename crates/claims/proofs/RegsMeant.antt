@@ -1,9 +1,9 @@
 -- Demand 3 of the registers, in document 01's words: a guard means "this setting, and S7, S8, S9 become 0"; "after a non-empty
 -- tape WEL is 0; other bits not set by a guard are as at the start".
-use mathlib.Core.Path.{_≡_, refl, sym, ap, _∙_}
+use mathlib.Core.Path.{_≡_, refl, sym, ap, _∙_, subst}
 use mathlib.Core.Bool.{Bool, true, false, _||_}
 use mathlib.Core.List.{List, [], _∷_}
-use Prim.Native.Nat.{ℕ, _%_}
+use Prim.Native.Nat.{ℕ, zero, suc, _%_, _≤_, _<_}
 use native.Mathlib.Omega.{arith}
 use lib.ListN.{length}
 use Rattle.lists.specs.Choice.{if_then_else_}
@@ -12,12 +12,17 @@ use Rattle.rules.specs.declared.Meter.{Meter}
 use Rattle.rules.specs.declared.Regs.{Regs}
 use Rattle.rules.specs.declared.Step.{Step}
 use Rattle.rules.specs.declared.Step.the-variants.{Erase, Lay, Guard}
+use Rattle.rules.specs.declared.Decoded.{Decoded}
+use Rattle.rules.specs.declared.Decoded.the-variants.{Good, Bad}
 use Rattle.rules.specs.Parts.{partOf}
 use Rattle.rules.specs.Status.{regsOf, flag, statusOf, keptOf, withWel}
 use Rattle.rules.specs.Replay.{ReplaySeen, replayOf}
-use Rattle.rules.specs.Job.{stepsOf, settingMeant, regsMeant, allRegsMeant}
+use Rattle.rules.specs.Job.{settingLimit, stepAt, stepCount, withStep, stepsFrom, stepsOf, settingMeant, regsMeant, allRegsMeant}
+use Rattle.rules.specs.JobRefusals.{settingAfter}
 use Rattle.rules.specs.Translate.{translateOf}
 use Rattle.rules.specs.Ready.{Ready, Roomy}
+use Rattle.job.proofs.Guards.{setting-small}
+use Rattle.claims.proofs.RoundTrip.{regs-back}
 use Rattle.claims.proofs.JobMeans.{tapeWritten, job-means-what-it-says}
 
 -- the last guard's setting, and s where there is no guard
@@ -86,18 +91,46 @@ regs-said r (Guard g ∷ ws) =
       qe = h .qe ∙ cleared (hasGuard ws);
     }
 
--- ---- and so of the registers that a caller is handed back
+-- ---- a guard's setting is 0 to 31, so the registers stand whole in the word that a caller is handed back
+
+with-last : (s : ℕ) (d : Decoded) (ws : List Step) → lastSetting s (withStep d ws) ≡ lastSetting (settingAfter s d) ws
+unfolding lastSetting
+with-last s (Good w) ws = refl
+with-last s Bad ws = refl
+
+last-small : (job : List ℕ) (s i n : ℕ) → s ≤ settingLimit → lastSetting s (stepsFrom job i n) ≤ settingLimit
+unfolding lastSetting stepsFrom
+last-small job s i zero h = h
+last-small job s i (suc n) h =
+    rw (with-last s (stepAt job i) (stepsFrom job (suc i) n)) (last-small job (settingAfter s (stepAt job i)) (suc i) n (setting-small job s i h))
+
+start-small : (kept : Kept) → regsOf kept .setting ≤ settingLimit
+unfolding regsOf
+start-small kept = omega arith
 
 status-idle : (r : Regs) → r .busy ≡ false → keptOf r .status % 2 ≡ 0
 unfolding keptOf statusOf
 status-idle r e = rw e (omega arith)
 
--- after the job's tape BUSY is 0
-pub job-leaves-idle : (part s : ℕ) (job payload buffer : List ℕ) → translateOf part s job payload buffer .answer .served ≡ true
-    → (kept : Kept) (m : Meter) (l : List ℕ) → length l ≡ partOf part .size → Ready (partOf part) s kept
-    → Roomy m (tapeWritten part s job payload buffer)
-    → replayOf part kept m l (tapeWritten part s job payload buffer) .answer .regs .status % 2 ≡ 0
-job-leaves-idle part s job payload buffer served kept m l long ready roomy =
-    let h = job-means-what-it-says part s job payload buffer served kept m l long ready roomy in
-    ap (λ (w : ReplaySeen). w .answer .regs .status % 2) (h .played)
-    ∙ status-idle (allRegsMeant (regsOf kept) (stepsOf job)) (regs-said (regsOf kept) (stepsOf job) .busy ∙ ready .idle)
+module _ (part s : ℕ) (job payload buffer : List ℕ) (served : translateOf part s job payload buffer .answer .served ≡ true) (kept : Kept) (m : Meter) (l : List ℕ) (long : length l ≡ partOf part .size) (ready : Ready (partOf part) s kept) (roomy : Roomy m (tapeWritten part s job payload buffer)) where
+  -- the registers that the job means
+  abbrev t : Regs
+  t = allRegsMeant (regsOf kept) (stepsOf job)
+
+  said : RegsSaid (regsOf kept) (stepsOf job) t
+  said = regs-said (regsOf kept) (stepsOf job)
+
+  -- .. are those handed back
+  back : replayOf part kept m l (tapeWritten part s job payload buffer) .answer .regs ≡ keptOf t
+  back = ap (λ (w : ReplaySeen). w .answer .regs) (job-means-what-it-says part s job payload buffer served kept m l long ready roomy .played)
+
+  -- under the hypotheses of `job-means-what-it-says`: the registers handed back, bit for bit
+  pub job-leaves-registers : RegsSaid (regsOf kept) (stepsOf job) (regsOf (replayOf part kept m l (tapeWritten part s job payload buffer) .answer .regs))
+  job-leaves-registers =
+      let small = last-small job (regsOf kept .setting) 0 (stepCount job) (start-small kept) in
+      let e : t .setting < 32 = omega (arith, said .setting) in
+      subst (RegsSaid (regsOf kept) (stepsOf job)) (sym (ap regsOf back ∙ regs-back t e)) said
+
+  -- .. and BUSY of the word is 0
+  pub job-leaves-idle : replayOf part kept m l (tapeWritten part s job payload buffer) .answer .regs .status % 2 ≡ 0
+  job-leaves-idle = ap (λ (k : Kept). k .status % 2) back ∙ status-idle t (said .busy ∙ ready .idle)
