@@ -23,7 +23,8 @@ use Rattle.rules.specs.Translate.{translateOf}
 use Rattle.rules.specs.Ready.{Ready, Roomy}
 use Rattle.job.proofs.Guards.{setting-small}
 use Rattle.claims.proofs.RoundTrip.{regs-back}
-use Rattle.claims.proofs.JobMeans.{tapeWritten, job-means-what-it-says}
+use Rattle.claims.specs.Means.{tapeWritten}
+use Rattle.claims.proofs.JobMeans.{job-means-what-it-says}
 
 -- the last guard's setting, and s where there is no guard
 unfoldable pub lastSetting : ℕ → List Step → ℕ
