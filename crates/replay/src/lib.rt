@@ -14,7 +14,7 @@ ghost use Prim.Native.Nat.{ℕ, _+_, _≤_, _<_, min};
 ghost use lib.ListN.{length, take, drop};
 ghost use Rattle.rules.specs.Parts.{partOf};
 ghost use Rattle.rules.specs.Tape.{records, recordLength, transaction, recAt, recsFrom};
-ghost use Rattle.rules.specs.Events.{powerCycled};
+ghost use Rattle.rules.specs.Events.{finished, powerCycled};
 ghost use Rattle.rules.specs.Play.{state, playRec, play};
 ghost use Rattle.rules.specs.Refusals.{refusal};
 ghost use Rattle.rules.specs.Replay.{badRecord, recordsRefusal, replayRefusal, replayTold, replaySeen, replayFirstOf, replayOf};
@@ -63,14 +63,20 @@ fn play_at(part: u32, s: Playing, array: &mut [u8], tape: &[u8], p: usize) -> Pl
     let m = s.meter;
     match found {
         AtPlace::Transaction(sent) => play_sent(part, s, array, tape, sent),
-        AtPlace::Finish => Playing {
-            regs: regs::finished(r),
-            meter: m,
-        },
+        AtPlace::Finish => ended(r, m),
         // A record that is there and good is no end and no fault.
         AtPlace::PowerCycle => cycled(r, m),
         AtPlace::End => cycled(r, m),
         AtPlace::Fault(_) => cycled(r, m),
+    }
+}
+
+fn ended(r: Regs, m: Meter) -> Playing
+    ensures { λ t. ⌜ (t .regs ≡ finished r) × (t .meter ≡ m) ⌝ }
+{
+    Playing {
+        regs: regs::finished(r),
+        meter: m,
     }
 }
 

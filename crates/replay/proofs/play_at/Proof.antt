@@ -31,8 +31,8 @@ play-sent-requires c κs =
 enum-told : tie.Need-enum-told
 enum-told c = search needs
 
-finished-requires : tie.Need-finished-requires
-finished-requires c κs = search needs
+ended-requires : tie.Need-ended-requires
+ended-requires c κs = search needs
 
 enum-told-2 : tie.Need-enum-told-2
 enum-told-2 c = search needs
@@ -64,7 +64,7 @@ returns-2 : tie.Need-returns-2
 unfolding playRec
 returns-2 c =
     let s = c .before .before .before .before .before .before .before .before .args in
-    (λ i. state (c .finished .ensures i) (s .array .now) (s .s .meter))
+    (λ i. state (c .ended .ensures .0 i) (s .array .now) (c .ended .ensures .1 i))
     ∙ said-played (partOf (s .part)) (s .tape .now) (s .p) (state (s .s .regs) (s .array .now) (s .s .meter)) _ (sym (c .before .enum-told .given .1) ∙ c .before .before .before .before .before .said-at .ensures)
 
 returns-3 : tie.Need-returns-3
@@ -96,7 +96,7 @@ play-at-spec =
     enum-known-found
     play-sent-requires
     enum-told
-    finished-requires
+    ended-requires
     enum-told-2
     cycled-requires
     enum-told-3
