@@ -1,0 +1,366 @@
+//! Random batches: each starts from its own seed, on arrays of its own making,
+//! and can be run again alone.
+
+use std::time::{Duration, Instant};
+
+use tunebriar::ffi::{Meter, Regs};
+
+use crate::bytes::aim;
+use crate::edges::FAR;
+use crate::generate::{self, Sent};
+use crate::reached::Entry;
+use crate::rng::Rng;
+use crate::suite::Suite;
+use crate::twin::{Call, Kept, Playing, Twin};
+use crate::{Checked, FULL, SIZE};
+
+/// A kind of batch.
+pub struct Plan {
+    /// Its name.
+    pub name: &'static str,
+    /// How many batches an ordinary run has.
+    pub batches: u64,
+    /// Runs one.
+    pub run: fn(&mut Twin, &mut Rng) -> Checked,
+}
+
+const PLANS: [Plan; 7] = [
+    Plan {
+        name: "chained",
+        batches: 40,
+        run: chained,
+    },
+    Plan {
+        name: "any registers",
+        batches: 25,
+        run: any_registers,
+    },
+    Plan {
+        name: "hostile",
+        batches: 25,
+        run: hostile,
+    },
+    Plan {
+        name: "full meters",
+        batches: 5,
+        run: full_meters,
+    },
+    Plan {
+        name: "replays",
+        batches: 30,
+        run: replays,
+    },
+    Plan {
+        name: "long replays",
+        batches: 6,
+        run: long_replays,
+    },
+    Plan {
+        name: "reads",
+        batches: 10,
+        run: reads,
+    },
+];
+
+/// Transactions of one batch.
+const CALLS: u64 = 20_000;
+
+/// All kinds of batches there are in this build.
+fn plans() -> Vec<Plan> {
+    let plans = PLANS.into_iter();
+    #[cfg(feature = "jobs")]
+    let plans = plans.chain(crate::jobs::PLANS);
+    plans.chain([crate::typed::PLAN]).collect()
+}
+
+/// An ordinary run: one named check for each kind of batch.
+pub fn run(suite: &mut Suite) {
+    for plan in plans() {
+        let name = format!("random/{}", plan.name);
+        let (options, seed) = (suite.options.clone(), suite.options.seed);
+        let wanted = |number: &u64| options.wants(&format!("{name}/{number}"));
+        let batches = plan.batches.div_ceil(options.part);
+        suite.check(&name, |twin| {
+            let mut numbers = (0..batches).filter(wanted);
+            numbers.try_for_each(|number| batch(twin, &plan, seed, number))
+        });
+    }
+}
+
+/// Further batches of all kinds in turn until the time is over. Progress goes
+/// to standard error.
+pub fn soak(suite: &mut Suite) {
+    let seconds = suite.options.soak;
+    if seconds == 0 {
+        return;
+    }
+    let start = Instant::now();
+    let mut said = start;
+    let seed = suite.options.seed;
+    let plans = plans();
+    let found = (1_000_000..).try_for_each(|number| {
+        for plan in &plans {
+            batch(&mut suite.twin, plan, seed, number).map_err(Some)?;
+            if said.elapsed() > Duration::from_secs(5) {
+                said = Instant::now();
+                eprintln!(
+                    "soak: {} s of {seconds}, {}",
+                    start.elapsed().as_secs(),
+                    counted(&suite.twin)
+                );
+            }
+        }
+        let over = start.elapsed() >= Duration::from_secs(seconds);
+        if over { Err(None) } else { Ok(()) }
+    });
+    suite.note("soak", found.or_else(|found| found.map_or(Ok(()), Err)));
+}
+
+/// How much was compared so far.
+#[must_use]
+pub fn counted(twin: &Twin) -> String {
+    let calls =
+        |entries: &[Entry]| -> u64 { entries.iter().map(|&entry| twin.reached.calls(entry)).sum() };
+    format!(
+        "{} transactions, {} replays, {} translations, {} quotes, {} reads, {} events",
+        calls(&[Entry::Transact]),
+        calls(&[Entry::Replay, Entry::ReplayFirst]),
+        calls(&[Entry::Translate]),
+        calls(&[Entry::Quote]),
+        calls(&[Entry::Read]),
+        calls(&[Entry::Finish, Entry::PowerCycle]),
+    )
+}
+
+/// One batch; its name and the seed are said with what is found.
+fn batch(twin: &mut Twin, plan: &Plan, seed: u64, number: u64) -> Checked {
+    let name = plan.name;
+    let mut rng = Rng::new(seed, name, number);
+    ground(twin, &mut rng);
+    let found = (plan.run)(twin, &mut rng).and_then(|()| twin.whole());
+    found.map_err(|found| format!("--seed {seed:#X} --only 'random/{name}/{number}': {found}"))
+}
+
+/// What is on the arrays before: mostly anything, else all FF or all 00.
+fn ground(twin: &mut Twin, rng: &mut Rng) {
+    match rng.below(6) {
+        0 => twin.set_all(0xFF),
+        1 => twin.set_all(0x00),
+        _ => twin.scribble(rng, 0, SIZE),
+    }
+}
+
+/// After an erase, something to be programmed over again.
+fn cover(twin: &mut Twin, rng: &mut Rng, bytes: &[u8]) {
+    if !matches!(bytes.first(), Some(0x20 | 0x52 | 0xD8 | 0xC7 | 0x60)) || rng.one_in(3) {
+        return;
+    }
+    if let Some(range) = aim(bytes) {
+        twin.scribble(rng, range.start, range.len());
+    }
+}
+
+fn call(kept: Kept, sent: Sent) -> Call {
+    let mut call = Call::new(kept, &sent.bytes);
+    (call.numbers.leftover, call.numbers.wp) = (sent.leftover, sent.wp);
+    call
+}
+
+/// Registers and meter of one answer go into the next call.
+fn chained(twin: &mut Twin, rng: &mut Rng) -> Checked {
+    let mut kept = Kept::awake(0);
+    for _ in 0..CALLS {
+        kept = step(twin, rng, kept)?;
+        if rng.one_in(150) {
+            // Else a lock of (1, 1) or a whole protection would stay.
+            kept.regs = generate::registers(rng);
+        }
+    }
+    Ok(())
+}
+
+/// An event now and then, then a transaction.
+fn step(twin: &mut Twin, rng: &mut Rng, mut kept: Kept) -> Checked<Kept> {
+    kept.regs = match rng.below(if kept.regs.status & 1 == 1 { 3 } else { 40 }) {
+        0 => regs(twin.finish(1, kept.regs)?),
+        1 if rng.one_in(6) => regs(twin.power_cycle(1, kept.regs)?),
+        _ => kept.regs,
+    };
+    let call = call(kept, generate::sensible(rng, kept.regs, 4_096));
+    let answer = twin.transact(&call)?;
+    if answer.number == 0 {
+        cover(twin, rng, &call.bytes);
+    }
+    Ok(answer.into())
+}
+
+fn regs(event: second::Event) -> Regs {
+    Regs {
+        status: event.regs.status,
+        awake: event.regs.awake,
+    }
+}
+
+/// Each call from registers and a meter of its own, well formed or raw.
+fn any_registers(twin: &mut Twin, rng: &mut Rng) -> Checked {
+    for _ in 0..CALLS {
+        let raw = rng.one_in(4);
+        let regs = if raw {
+            generate::wild_registers(rng)
+        } else {
+            generate::registers(rng)
+        };
+        let meter = generate::meter(rng);
+        let call = call(Kept { regs, meter }, generate::sensible(rng, regs, 4_096));
+        let answer = twin.transact(&call)?;
+        if answer.number == 0 {
+            cover(twin, rng, &call.bytes);
+        }
+        if rng.one_in(4) {
+            twin.finish(generate::part(rng, 8), regs)?;
+            twin.power_cycle(generate::part(rng, 8), regs)?;
+        }
+    }
+    Ok(())
+}
+
+/// Any bytes, and often something else that is wrong, or two things.
+fn hostile(twin: &mut Twin, rng: &mut Rng) -> Checked {
+    for _ in 0..CALLS {
+        let regs = if rng.one_in(6) {
+            generate::wild_registers(rng)
+        } else {
+            generate::registers(rng)
+        };
+        let meter = if rng.one_in(6) {
+            generate::meter(rng)
+        } else {
+            Meter::default()
+        };
+        let mut call = call(Kept { regs, meter }, generate::wild(rng));
+        call.numbers.part = generate::part(rng, 12);
+        if rng.one_in(10) {
+            call.array = rng.pick(&[0, 1, 4_096, SIZE - 1, SIZE + 1]);
+        }
+        call.out = match rng.below(8) {
+            0 => call.out.saturating_sub(1),
+            1 => rng.below(call.out + 1),
+            2 => call.out + rng.below(300),
+            _ => call.out,
+        };
+        let answer = twin.transact(&call)?;
+        if answer.number == 0 {
+            cover(twin, rng, &call.bytes);
+        }
+    }
+    Ok(())
+}
+
+/// Chains that run up to the top of a count and meet refusal 7 there.
+fn full_meters(twin: &mut Twin, rng: &mut Rng) -> Checked {
+    for _ in 0..CALLS / 20 {
+        let mut count = || FULL - rng.under(12);
+        let meter = Meter {
+            programs: count(),
+            erases: count(),
+            writes: count(),
+            ignored: count(),
+        };
+        let mut kept = Kept {
+            meter,
+            ..Kept::awake(2)
+        };
+        for _ in 0..20 {
+            kept = step(twin, rng, kept)?;
+        }
+    }
+    Ok(())
+}
+
+/// Tapes of a few records, good and damaged, played whole or in part; the state
+/// goes from one to the next.
+fn replays(twin: &mut Twin, rng: &mut Rng) -> Checked {
+    let mut kept = Kept::awake(0);
+    for _ in 0..CALLS / 20 {
+        let records = rng.pick(&[0, 1, 2, 3, 5, 8, 13, 21]);
+        let mut tape = generate::tape(rng, records);
+        if rng.one_in(3) {
+            generate::damage(rng, &mut tape);
+        }
+        let answer = twin.replay(&playing(rng, kept, &tape))?;
+        kept = answer.into();
+        if rng.one_in(8) {
+            kept = Kept {
+                regs: generate::registers(rng),
+                meter: generate::meter(rng),
+            };
+        }
+        if rng.one_in(40) {
+            kept.regs = generate::wild_registers(rng);
+        }
+        if rng.one_in(30) {
+            twin.scribble(rng, 0, SIZE);
+        }
+    }
+    Ok(())
+}
+
+fn playing<'a>(rng: &mut Rng, kept: Kept, tape: &'a [u8]) -> Playing<'a> {
+    let k = match rng.below(8) {
+        0..3 => None,
+        3 => Some(rng.pick(&FAR)),
+        _ => Some(rng.below(24) as u64),
+    };
+    let array = if rng.one_in(30) {
+        rng.pick(&[0, SIZE - 1, SIZE + 1])
+    } else {
+        SIZE
+    };
+    Playing {
+        part: generate::part(rng, 40),
+        kept,
+        array,
+        tape,
+        k,
+    }
+}
+
+/// A few tapes of thousands of records.
+fn long_replays(twin: &mut Twin, rng: &mut Rng) -> Checked {
+    let mut kept = Kept::awake(0);
+    for _ in 0..4 {
+        let records = 1_000 + rng.below(4_000);
+        let mut tape = generate::tape(rng, records);
+        let k = rng.below(records) as u64;
+        kept = twin
+            .replay(&Playing {
+                k: Some(k),
+                ..Playing::new(kept, &tape)
+            })?
+            .into();
+        kept = twin.replay(&Playing::new(kept, &tape))?.into();
+        generate::damage(rng, &mut tape);
+        kept = twin.replay(&Playing::new(kept, &tape))?.into();
+        kept.regs = generate::registers(rng);
+        twin.scribble(rng, 0, SIZE);
+    }
+    Ok(())
+}
+
+/// Every place of a tape, places past it, and places far away.
+fn reads(twin: &mut Twin, rng: &mut Rng) -> Checked {
+    for _ in 0..CALLS / 20 {
+        let records = rng.below(12);
+        let mut tape = generate::tape(rng, records);
+        if rng.one_in(2) {
+            generate::damage(rng, &mut tape);
+        }
+        for place in 0..records as u64 + 3 {
+            twin.read(&tape, place)?;
+        }
+        let far = rng.pick(&FAR);
+        twin.read(&tape, far)?;
+        twin.read(&tape, rng.next())?;
+    }
+    Ok(())
+}

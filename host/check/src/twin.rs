@@ -1,0 +1,582 @@
+//! Both emulators in step: every call goes to both, with an array each, and
+//! every answer, every output byte and the array are compared.
+
+use core::fmt;
+
+use tunebriar::ffi::{self, Numbers};
+
+use crate::bytes::{RECORD, aim, hex};
+use crate::guarded::Guarded;
+use crate::reached::{Entry, Reached};
+use crate::rng::Rng;
+use crate::{Checked, SIZE, same};
+
+/// How many calls pass between two comparisons of the whole array, unless told
+/// otherwise. What a call is aimed at is compared after every call.
+const WHOLE_EVERY: u64 = 4_096;
+
+/// What a caller keeps.
+#[derive(Clone, Copy, Debug, Default, PartialEq, Eq)]
+pub struct Kept {
+    /// The registers.
+    pub regs: ffi::Regs,
+    /// The meter.
+    pub meter: ffi::Meter,
+}
+
+impl Kept {
+    /// Awake, with this status, and an empty meter.
+    #[must_use]
+    pub fn awake(status: u32) -> Kept {
+        Kept {
+            regs: ffi::Regs { status, awake: 1 },
+            meter: ffi::Meter::default(),
+        }
+    }
+}
+
+/// A transaction, with the lengths of what is lent.
+#[derive(Clone, Debug)]
+pub struct Call {
+    /// All that is a number.
+    pub numbers: Numbers,
+    /// The bytes sent.
+    pub bytes: Vec<u8>,
+    /// The length of the array lent.
+    pub array: usize,
+    /// The length of the output lent.
+    pub out: usize,
+}
+
+impl Call {
+    /// Part 1, no leftover bits, /WP high, an output of just the right length.
+    #[must_use]
+    pub fn new(kept: Kept, bytes: &[u8]) -> Call {
+        let numbers = Numbers {
+            part: 1,
+            regs: kept.regs,
+            meter: kept.meter,
+            leftover: 0,
+            wp: 1,
+        };
+        Call {
+            numbers,
+            bytes: bytes.to_vec(),
+            array: SIZE,
+            out: bytes.len(),
+        }
+    }
+}
+
+impl fmt::Display for Call {
+    fn fmt(&self, f: &mut fmt::Formatter<'_>) -> fmt::Result {
+        let (numbers, bytes) = (self.numbers, hex(&self.bytes));
+        let (array, out) = (self.array, self.out);
+        write!(
+            f,
+            "transaction {bytes} {numbers:?}, array {array}, out {out}"
+        )
+    }
+}
+
+/// A replay, whole or of the first k records.
+#[derive(Clone, Copy, Debug)]
+pub struct Playing<'a> {
+    /// The part number.
+    pub part: u32,
+    /// Registers and meter.
+    pub kept: Kept,
+    /// The length of the array lent.
+    pub array: usize,
+    /// The tape.
+    pub tape: &'a [u8],
+    /// For `tb_replay_first`; without it, `tb_replay`.
+    pub k: Option<u64>,
+}
+
+impl<'a> Playing<'a> {
+    /// The whole tape, on part 1.
+    #[must_use]
+    pub fn new(kept: Kept, tape: &'a [u8]) -> Playing<'a> {
+        Playing {
+            part: 1,
+            kept,
+            array: SIZE,
+            tape,
+            k: None,
+        }
+    }
+
+    fn entry(&self) -> Entry {
+        match self.k {
+            Some(_) => Entry::ReplayFirst,
+            None => Entry::Replay,
+        }
+    }
+}
+
+impl fmt::Display for Playing<'_> {
+    fn fmt(&self, f: &mut fmt::Formatter<'_>) -> fmt::Result {
+        let (kept, k, part, array) = (self.kept, self.k, self.part, self.array);
+        write!(f, "replay k {k:?} part {part} {kept:?} array {array}")?;
+        let records = self.tape.chunks(RECORD).take(12);
+        records
+            .into_iter()
+            .try_for_each(|record| write!(f, "\n    {}", hex(record)))
+    }
+}
+
+/// A job with its payload, and the length of the tape lent.
+#[derive(Clone, Debug)]
+pub struct Job {
+    /// The part number.
+    pub part: u32,
+    /// The start setting.
+    pub setting: u32,
+    /// Records of sixteen bytes, or not.
+    pub steps: Vec<u8>,
+    /// The payload.
+    pub payload: Vec<u8>,
+    /// The length of the tape lent.
+    pub tape: usize,
+}
+
+impl fmt::Display for Job {
+    fn fmt(&self, f: &mut fmt::Formatter<'_>) -> fmt::Result {
+        let (part, setting, tape) = (self.part, self.setting, self.tape);
+        let payload = hex(&self.payload);
+        write!(
+            f,
+            "job part {part} setting {setting} tape {tape} payload {payload}"
+        )?;
+        let steps = self.steps.chunks(16).take(65);
+        steps
+            .into_iter()
+            .try_for_each(|step| write!(f, "\n    {}", hex(step)))
+    }
+}
+
+/// The two of them.
+#[derive(Debug)]
+pub struct Twin {
+    /// What the answers have been so far.
+    pub reached: Reached,
+    first: Guarded,
+    second: Guarded,
+    lent: Guarded,
+    mirror: Vec<u8>,
+    every: u64,
+    since: u64,
+    calls: u64,
+}
+
+impl Twin {
+    /// Two arrays, all FF. `every` says after how many calls the whole array
+    /// is compared.
+    #[must_use]
+    pub fn new(every: Option<u64>) -> Twin {
+        Twin {
+            reached: Reached::default(),
+            first: filled(0xFF),
+            second: filled(0xFF),
+            lent: Guarded::new(0, 0),
+            mirror: Vec::new(),
+            every: every.unwrap_or(WHOLE_EVERY),
+            since: 0,
+            calls: 0,
+        }
+    }
+
+    /// After a finding the two arrays may differ: two new ones, so that the
+    /// next check speaks for itself.
+    pub fn renew(&mut self, every: Option<u64>) {
+        let reached = core::mem::take(&mut self.reached);
+        *self = Twin {
+            reached,
+            ..Twin::new(every)
+        };
+    }
+
+    /// The two arrays, the first's first.
+    pub fn arrays(&mut self) -> (&mut [u8], &mut [u8]) {
+        (self.first.lent_mut(), self.second.lent_mut())
+    }
+
+    /// The first's array.
+    #[must_use]
+    pub fn array(&self) -> &[u8] {
+        self.first.lent()
+    }
+
+    /// What the first has put out, or the tape it has written.
+    #[must_use]
+    pub fn written(&self) -> &[u8] {
+        self.lent.lent()
+    }
+
+    /// Every byte of both arrays.
+    pub fn set_all(&mut self, byte: u8) {
+        self.first.lent_mut().fill(byte);
+        self.second.lent_mut().fill(byte);
+    }
+
+    /// Some bytes of both arrays.
+    pub fn set(&mut self, at: usize, bytes: &[u8]) {
+        for array in [&mut self.first, &mut self.second] {
+            array.lent_mut()[at..at + bytes.len()].copy_from_slice(bytes);
+        }
+    }
+
+    /// Any bytes in both arrays, from `at` on; an array that is all FF says
+    /// little about a program.
+    pub fn scribble(&mut self, rng: &mut Rng, at: usize, length: usize) {
+        let end = SIZE.min(at + length);
+        rng.fill(&mut self.first.lent_mut()[at..end]);
+        let bytes = &self.first.lent()[at..end];
+        self.second.lent_mut()[at..end].copy_from_slice(bytes);
+    }
+
+    /// One transaction by both.
+    ///
+    /// # Errors
+    ///
+    /// Where the two differ in anything.
+    pub fn transact(&mut self, call: &Call) -> Checked<second::Answer> {
+        self.transact_unsaid(call)
+            .map_err(|found| format!("{found}\n  {call}"))
+    }
+
+    fn transact_unsaid(&mut self, call: &Call) -> Checked<second::Answer> {
+        self.prepare(call.out);
+        let array = self.first.lent_as(call.array);
+        let out = self.lent.lent_mut();
+        let first = ffi::transact(
+            call.numbers,
+            array.into(),
+            out.into(),
+            call.bytes[..].into(),
+        );
+        let second = self.transact_second(call);
+        if second.number == 0 {
+            self.reached
+                .carried_out(call.bytes.first().copied().unwrap_or(0));
+        }
+        self.answers(Entry::Transact, first, second)?;
+        self.outputs()?;
+        self.touched(&call.bytes, second.number == 0)?;
+        self.now_and_then()?;
+        Ok(second)
+    }
+
+    fn transact_second(&mut self, call: &Call) -> second::Answer {
+        let Numbers {
+            part,
+            regs,
+            meter,
+            leftover,
+            wp,
+        } = call.numbers;
+        let array = self.second.lent_as(call.array);
+        let (regs, meter) = (regs_of(regs), meter_of(meter));
+        let out = &mut self.mirror;
+        second::transact(part, regs, meter, leftover, wp, array, out, &call.bytes)
+    }
+
+    /// A finish event by both.
+    ///
+    /// # Errors
+    ///
+    /// Where the two differ in anything.
+    pub fn finish(&mut self, part: u32, regs: ffi::Regs) -> Checked<second::Event> {
+        let first = ffi::finish(part, regs);
+        self.event(
+            Entry::Finish,
+            regs,
+            first,
+            second::finish(part, regs_of(regs)),
+        )
+    }
+
+    /// A power cycle by both.
+    ///
+    /// # Errors
+    ///
+    /// Where the two differ in anything.
+    pub fn power_cycle(&mut self, part: u32, regs: ffi::Regs) -> Checked<second::Event> {
+        let first = ffi::power_cycle(part, regs);
+        let second = second::power_cycle(part, regs_of(regs));
+        self.event(Entry::PowerCycle, regs, first, second)
+    }
+
+    fn event(
+        &mut self,
+        entry: Entry,
+        from: ffi::Regs,
+        first: ffi::Event,
+        second: second::Event,
+    ) -> Checked<second::Event> {
+        self.reached.answered(entry, second.number);
+        let got = (first.number, first.index, regs_of(first.regs));
+        let expected = (second.number, second.index, second.regs);
+        same(format_args!("{entry:?} from {from:?}"), &got, &expected)?;
+        Ok(second)
+    }
+
+    /// One replay by both.
+    ///
+    /// # Errors
+    ///
+    /// Where the two differ in anything.
+    pub fn replay(&mut self, call: &Playing) -> Checked<second::Answer> {
+        self.replay_unsaid(call)
+            .map_err(|found| format!("{found}\n  {call}"))
+    }
+
+    fn replay_unsaid(&mut self, call: &Playing) -> Checked<second::Answer> {
+        let first = self.replay_first_one(call);
+        let second = self.replay_second_one(call);
+        self.answers(call.entry(), first, second)?;
+        for record in call.tape.chunks_exact(RECORD) {
+            let sent = usize::from(u16::from_be_bytes([record[0], record[1]]));
+            let bytes = &record[4..4 + sent.min(RECORD - 4)];
+            self.touched(bytes, second.number == 0)?;
+        }
+        self.now_and_then()?;
+        Ok(second)
+    }
+
+    fn replay_first_one(&mut self, call: &Playing) -> ffi::Answer {
+        let Kept { regs, meter } = call.kept;
+        let (array, tape) = (self.first.lent_as(call.array).into(), call.tape.into());
+        match call.k {
+            Some(k) => ffi::replay_first(call.part, regs, meter, array, tape, k),
+            None => ffi::replay(call.part, regs, meter, array, tape),
+        }
+    }
+
+    fn replay_second_one(&mut self, call: &Playing) -> second::Answer {
+        let (regs, meter) = (regs_of(call.kept.regs), meter_of(call.kept.meter));
+        let array = self.second.lent_as(call.array);
+        match call.k {
+            Some(k) => second::replay_first(call.part, regs, meter, array, call.tape, k),
+            None => second::replay(call.part, regs, meter, array, call.tape),
+        }
+    }
+
+    /// A read at a place of a tape by both.
+    ///
+    /// # Errors
+    ///
+    /// Where the two differ in anything.
+    pub fn read(&mut self, tape: &[u8], place: u64) -> Checked<second::Record> {
+        let first = ffi::read(tape.into(), place);
+        let second = second::read(tape, place);
+        self.reached.answered(Entry::Read, second.number);
+        self.reached.read(second.kind);
+        let found = same("answer", &record_of(first), &second);
+        found.map_err(|found| format!("{found}\n  read at {place} of {}", hex(tape)))?;
+        Ok(second)
+    }
+
+    /// A translation by both; the first's tape is then in [`Twin::written`].
+    ///
+    /// # Errors
+    ///
+    /// Where the two differ in anything.
+    #[cfg(feature = "jobs")]
+    pub fn translate(&mut self, job: &Job) -> Checked<second::Tape> {
+        self.prepare(job.tape);
+        let (steps, payload) = (&job.steps[..], &job.payload[..]);
+        let tape = self.lent.lent_mut().into();
+        let first = ffi::translate(job.part, job.setting, steps.into(), payload.into(), tape);
+        let second = second::translate(job.part, job.setting, steps, payload, &mut self.mirror);
+        self.reached.answered(Entry::Translate, second.number);
+        let got = (first.number, first.index, first.length);
+        let expected = (second.number, second.index, second.length);
+        let found = same("answer", &got, &expected).and_then(|()| self.outputs());
+        found.map_err(|found| format!("{found}\n  translate {job}"))?;
+        Ok(second)
+    }
+
+    /// A quote by both.
+    ///
+    /// # Errors
+    ///
+    /// Where the two differ in anything.
+    #[cfg(feature = "jobs")]
+    pub fn quote(&mut self, job: &Job) -> Checked<second::Bill> {
+        let (steps, payload) = (&job.steps[..], &job.payload[..]);
+        let first = ffi::quote(job.part, job.setting, steps.into(), payload.into());
+        let second = second::quote(job.part, job.setting, steps, payload);
+        self.reached.answered(Entry::Quote, second.number);
+        let found = same("answer", &bill_of(first), &second);
+        found.map_err(|found| format!("{found}\n  quote {job}"))?;
+        Ok(second)
+    }
+
+    /// The whole array, and what lies around the first's.
+    ///
+    /// # Errors
+    ///
+    /// The first address that differs.
+    pub fn whole(&mut self) -> Checked {
+        self.since = 0;
+        self.stretch(0..SIZE)?;
+        if self.first.intact() {
+            return Ok(());
+        }
+        Err("something was written past the array's ends".into())
+    }
+
+    /// An output or a tape for each, alike, and holding what changes from call
+    /// to call and is never FF, so that a byte not written is seen.
+    fn prepare(&mut self, length: usize) {
+        self.calls += 1;
+        let pattern = (self.calls % 251) as u8;
+        self.lent.prepare(length, pattern);
+        self.mirror.clear();
+        self.mirror.resize(length, pattern);
+    }
+
+    fn answers(&mut self, entry: Entry, first: ffi::Answer, second: second::Answer) -> Checked {
+        self.reached.answered(entry, second.number);
+        let Kept { regs, meter } = Kept::from(second);
+        let expected = ffi::Answer {
+            number: second.number,
+            index: second.index,
+            regs,
+            meter,
+        };
+        same("answer", &first, &expected)
+    }
+
+    fn outputs(&self) -> Checked {
+        if !self.lent.intact() {
+            return Err("something was written past the output's ends".into());
+        }
+        let (first, second) = (self.lent.lent(), &self.mirror[..]);
+        match differing(first, second) {
+            None => Ok(()),
+            Some(at) => Err(format!(
+                "output byte {at}: {:02X}, expected {:02X}",
+                first[at], second[at]
+            )),
+        }
+    }
+
+    /// What a transaction is aimed at; everything only where it was served.
+    fn touched(&self, bytes: &[u8], served: bool) -> Checked {
+        match aim(bytes) {
+            Some(range) if served || range.len() < SIZE => self.stretch(range),
+            _ => Ok(()),
+        }
+    }
+
+    fn stretch(&self, range: core::ops::Range<usize>) -> Checked {
+        let start = range.start;
+        let (first, second) = (
+            &self.first.lent()[range.clone()],
+            &self.second.lent()[range],
+        );
+        match differing(first, second) {
+            None => Ok(()),
+            Some(at) => Err(format!(
+                "array byte {:06X}: {:02X}, expected {:02X}",
+                start + at,
+                first[at],
+                second[at]
+            )),
+        }
+    }
+
+    fn now_and_then(&mut self) -> Checked {
+        self.since += 1;
+        if self.since < self.every {
+            return Ok(());
+        }
+        let calls = self.since;
+        self.whole()
+            .map_err(|found| format!("{found}, since one of the last {calls} calls"))
+    }
+}
+
+impl From<second::Answer> for Kept {
+    fn from(answer: second::Answer) -> Kept {
+        let second::Meter {
+            programs,
+            erases,
+            writes,
+            ignored,
+        } = answer.meter;
+        Kept {
+            regs: ffi::Regs {
+                status: answer.regs.status,
+                awake: answer.regs.awake,
+            },
+            meter: ffi::Meter {
+                programs,
+                erases,
+                writes,
+                ignored,
+            },
+        }
+    }
+}
+
+fn filled(byte: u8) -> Guarded {
+    let mut array = Guarded::new(SIZE, 0x5A);
+    array.lent_mut().fill(byte);
+    array
+}
+
+/// Where two stretches first differ. Equality is asked first, since it is quick.
+fn differing(first: &[u8], second: &[u8]) -> Option<usize> {
+    if first == second {
+        return None;
+    }
+    first.iter().zip(second).position(|(a, b)| a != b)
+}
+
+/// The registers as the second has them.
+#[must_use]
+pub fn regs_of(regs: ffi::Regs) -> second::Regs {
+    second::Regs {
+        status: regs.status,
+        awake: regs.awake,
+    }
+}
+
+/// The meter as the second has it.
+#[must_use]
+pub fn meter_of(meter: ffi::Meter) -> second::Meter {
+    second::Meter {
+        programs: meter.programs,
+        erases: meter.erases,
+        writes: meter.writes,
+        ignored: meter.ignored,
+    }
+}
+
+fn record_of(record: ffi::Record) -> second::Record {
+    second::Record {
+        kind: record.kind,
+        number: record.number,
+        length: record.length,
+        leftover: record.leftover,
+        wp: record.wp,
+        start: record.start,
+        next: record.next,
+    }
+}
+
+#[cfg(feature = "jobs")]
+fn bill_of(bill: ffi::Bill) -> second::Bill {
+    second::Bill {
+        number: bill.number,
+        index: bill.index,
+        programs: bill.programs,
+        erases: bill.erases,
+        writes: bill.writes,
+        length: bill.length,
+    }
+}
