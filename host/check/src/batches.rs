@@ -8,6 +8,7 @@ use tunebriar::ffi::{Meter, Regs};
 use crate::bytes::aim;
 use crate::edges::FAR;
 use crate::generate::{self, Sent};
+use crate::options::Options;
 use crate::reached::Entry;
 use crate::rng::Rng;
 use crate::suite::Suite;
@@ -27,43 +28,45 @@ pub struct Plan {
 const PLANS: [Plan; 7] = [
     Plan {
         name: "chained",
-        batches: 40,
+        batches: 80,
         run: chained,
     },
     Plan {
         name: "any registers",
-        batches: 25,
+        batches: 40,
         run: any_registers,
     },
     Plan {
         name: "hostile",
-        batches: 25,
+        batches: 40,
         run: hostile,
     },
     Plan {
         name: "full meters",
-        batches: 5,
+        batches: 10,
         run: full_meters,
     },
     Plan {
         name: "replays",
-        batches: 30,
+        batches: 60,
         run: replays,
     },
     Plan {
         name: "long replays",
-        batches: 6,
+        batches: 8,
         run: long_replays,
     },
     Plan {
         name: "reads",
-        batches: 10,
+        batches: 15,
         run: reads,
     },
 ];
 
 /// Transactions of one batch.
 const CALLS: u64 = 20_000;
+/// Where the numbers of further batches begin, past those of any ordinary run.
+const FURTHER: u64 = 1_000_000;
 
 /// All kinds of batches there are in this build.
 fn plans() -> Vec<Plan> {
@@ -76,44 +79,56 @@ fn plans() -> Vec<Plan> {
 /// An ordinary run: one named check for each kind of batch.
 pub fn run(suite: &mut Suite) {
     for plan in plans() {
-        let name = format!("random/{}", plan.name);
-        let (options, seed) = (suite.options.clone(), suite.options.seed);
-        let wanted = |number: &u64| options.wants(&format!("{name}/{number}"));
-        let batches = plan.batches.div_ceil(options.part);
+        let (name, seed) = (format!("random/{}", plan.name), suite.options.seed);
+        let numbers = numbers(&suite.options, &name, plan.batches);
         suite.check(&name, |twin| {
-            let mut numbers = (0..batches).filter(wanted);
+            let mut numbers = numbers.into_iter();
             numbers.try_for_each(|number| batch(twin, &plan, seed, number))
         });
+    }
+}
+
+/// The batches of a plan that are asked for: one that is named, or all.
+fn numbers(options: &Options, name: &str, batches: u64) -> Vec<u64> {
+    let only = options.only.as_deref().unwrap_or_default();
+    let named = only
+        .strip_prefix(name)
+        .and_then(|rest| rest.strip_prefix('/'));
+    match named.and_then(|number| number.parse().ok()) {
+        Some(number) => vec![number],
+        None => (0..batches.div_ceil(options.part)).collect(),
     }
 }
 
 /// Further batches of all kinds in turn until the time is over. Progress goes
 /// to standard error.
 pub fn soak(suite: &mut Suite) {
-    let seconds = suite.options.soak;
-    if seconds == 0 {
+    if suite.options.soak == 0 {
         return;
     }
-    let start = Instant::now();
+    let (options, start) = (suite.options.clone(), Instant::now());
+    let mut plans = plans();
+    plans.retain(|plan| options.wants(&format!("random/{}", plan.name)));
+    let found = soaked(&mut suite.twin, &options, &plans, start);
+    suite.note("soak", found);
+}
+
+fn soaked(twin: &mut Twin, options: &Options, plans: &[Plan], start: Instant) -> Checked {
     let mut said = start;
-    let seed = suite.options.seed;
-    let plans = plans();
-    let found = (1_000_000..).try_for_each(|number| {
-        for plan in &plans {
-            batch(&mut suite.twin, plan, seed, number).map_err(Some)?;
-            if said.elapsed() > Duration::from_secs(5) {
+    for number in FURTHER.. {
+        for plan in plans {
+            batch(twin, plan, options.seed, number)?;
+            let gone = start.elapsed().as_secs();
+            if said.elapsed() >= Duration::from_secs(5) {
                 said = Instant::now();
-                eprintln!(
-                    "soak: {} s of {seconds}, {}",
-                    start.elapsed().as_secs(),
-                    counted(&suite.twin)
-                );
+                eprintln!("soak: {gone} of {} s, {}", options.soak, counted(twin));
+            }
+            if gone >= options.soak {
+                return Ok(());
             }
         }
-        let over = start.elapsed() >= Duration::from_secs(seconds);
-        if over { Err(None) } else { Ok(()) }
-    });
-    suite.note("soak", found.or_else(|found| found.map_or(Ok(()), Err)));
+    }
+    Ok(())
 }
 
 /// How much was compared so far.

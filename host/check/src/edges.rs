@@ -43,10 +43,12 @@ pub fn run(suite: &mut Suite) {
     suite.check("edges/null pointers", null_pointers);
     suite.check("edges/far places", far_places);
     suite.check("edges/first k", first_k);
-    suite.check("edges/faults of a record", faults_of_a_record);
+    suite.check("edges/heads of a record", heads_of_a_record);
+    suite.check("edges/tails of a record", tails_of_a_record);
     suite.check("edges/tapes not whole", tapes_not_whole);
     suite.check("edges/addresses past the chip", addresses_past_the_chip);
     suite.check("edges/long programs", long_programs);
+    suite.check("edges/erases", erases);
 }
 
 /// Runs a call and asks for its number; a refusal must also hand back the
@@ -415,40 +417,46 @@ fn first_k(twin: &mut Twin) -> Checked {
     Ok(())
 }
 
-/// Every way in which a record can be bad, and its neighbour that is good.
-fn faults_of_a_record(twin: &mut Twin) -> Checked {
-    let mut one = |record: &[u8], bad: bool| {
-        let tape = [sent(&[0x06]), record.to_vec(), finish()].concat();
-        let (number, index) = if bad { (31, 1) } else { (0, 0) };
-        expect_replay(twin, &Playing::new(Kept::awake(0), &tape), number, index)?;
-        let read = twin.read(&tape, 1)?;
-        same("read", &read.number, &number)
-    };
-    for length in [0, 1, 255, 256, 259, 260, 261, 262, 511, 512, 65_535] {
+/// A record between two good ones, by a replay and by a read.
+fn one_record(twin: &mut Twin, record: &[u8], bad: bool) -> Checked {
+    let tape = [&sent(&[0x06]), record, &finish()].concat();
+    let (number, index) = if bad { (31, 1) } else { (0, 0) };
+    expect_replay(twin, &Playing::new(Kept::awake(0), &tape), number, index)?;
+    same("read", &twin.read(&tape, 1)?.number, &number)
+}
+
+/// The head of a record: length, kind and byte 3, bad and just good.
+fn heads_of_a_record(twin: &mut Twin) -> Checked {
+    for length in [0, 1, 255, 256, 259, 260, 261, 262, 511, 512, 65_535_u16] {
         let mut bytes = record(0, 8, &[]);
-        bytes[..2].copy_from_slice(&(length as u16).to_be_bytes());
-        one(&bytes, length > 260)?;
+        bytes[..2].copy_from_slice(&length.to_be_bytes());
+        one_record(twin, &bytes, length > 260)?;
         bytes[RECORD - 1] = 1;
-        one(&bytes, length != 260)?;
+        one_record(twin, &bytes, length != 260)?;
     }
     for byte in 0..=255 {
-        one(&record(byte, 0, &[]), byte > 2)?;
-        one(&record(0, byte, &[0x05, 0]), byte > 15)?;
-        one(&record(1, byte, &[]), byte > 0)?;
-        one(&record(2, byte, &[]), byte > 0)?;
+        one_record(twin, &record(byte, 0, &[]), byte > 2)?;
+        one_record(twin, &record(0, byte, &[0x05, 0]), byte > 15)?;
+        one_record(twin, &record(1, byte, &[]), byte > 0)?;
+        one_record(twin, &record(2, byte, &[]), byte > 0)?;
     }
-    for place in 4..RECORD {
-        for (kind, length) in [(0, 0), (0, 1), (0, 130), (0, 259), (0, 260), (1, 0), (2, 0)] {
-            let mut bytes = record(kind, 0, &vec![0; length]);
+    Ok(())
+}
+
+/// One byte that is not 0, at every place of a record of every kind.
+fn tails_of_a_record(twin: &mut Twin) -> Checked {
+    for place in (0..RECORD).filter(|&place| place != 2) {
+        for kind in [1, 2] {
+            let mut bytes = record(kind, 0, &[]);
             bytes[place] = 0x80;
-            one(&bytes, kind > 0 || place >= 4 + length)?;
+            one_record(twin, &bytes, true)?;
         }
     }
-    for kind in [1, 2] {
-        for (place, byte) in [(0, 1), (1, 1), (3, 8)] {
-            let mut bytes = record(kind, 0, &[]);
-            bytes[place] = byte;
-            one(&bytes, true)?;
+    for place in 4..RECORD {
+        for length in [0, 1, 130, 259, 260] {
+            let mut bytes = record(0, 0, &vec![0; length]);
+            bytes[place] = 0x80;
+            one_record(twin, &bytes, place >= 4 + length)?;
         }
     }
     Ok(())
@@ -521,4 +529,40 @@ fn long_programs(twin: &mut Twin) -> Checked {
         same("the page", &&twin.array()[0x2000..0x2100], &&page[..])?;
     }
     Ok(())
+}
+
+/// An erase makes its unit FF, to the last byte, and nothing else.
+fn erases(twin: &mut Twin) -> Checked {
+    let units = [(0x20, 4_096), (0x52, 32_768), (0xD8, 65_536)];
+    for (code, unit) in units {
+        for address in [0, unit - 1, unit, 0x12_3456, SIZE - unit, SIZE - 1] {
+            twin.set_all(0x3C);
+            expect(
+                twin,
+                &Call::new(Kept::awake(WEL), &at(code, address as u32)),
+                0,
+            )?;
+            let start = address / unit * unit;
+            erased(twin, start..start + unit)?;
+        }
+    }
+    for code in [0xC7, 0x60] {
+        twin.set_all(0x3C);
+        expect(twin, &Call::new(Kept::awake(WEL), &[code]), 0)?;
+        erased(twin, 0..SIZE)?;
+    }
+    Ok(())
+}
+
+/// FF in the range, and what was there before outside.
+fn erased(twin: &Twin, range: core::ops::Range<usize>) -> Checked {
+    let array = twin.array();
+    let inside = array[range.clone()].iter().all(|&byte| byte == 0xFF);
+    let mut outside = array[..range.start].iter().chain(&array[range.end..]);
+    same("FF inside", &inside, &true)?;
+    same(
+        "as before outside",
+        &outside.all(|&byte| byte == 0x3C),
+        &true,
+    )
 }

@@ -17,12 +17,12 @@ use crate::{Checked, SIZE, same};
 pub const PLANS: [Plan; 2] = [
     Plan {
         name: "jobs",
-        batches: 20,
+        batches: 40,
         run: jobs,
     },
     Plan {
         name: "jobs played",
-        batches: 10,
+        batches: 15,
         run: played,
     },
 ];
@@ -320,7 +320,8 @@ fn step(rng: &mut Rng, payload: usize) -> Vec<u8> {
             let length = 1 + rng.under(most);
             lay(address, length, rng.below(payload + 1) as u32)
         }
-        _ => guard(rng.pick(&[0, 0, 1, 9, 17, 25, rng.clone().below(32) as u8])),
+        10 => guard(rng.pick(&[0, 0, 0, 1, 9, 17, 25])),
+        _ => guard(rng.below(32) as u8),
     }
 }
 

@@ -42,10 +42,9 @@ fn all(suite: &mut Suite) {
     #[cfg(feature = "jobs")]
     check::jobs::run(suite);
     grids::run(suite);
-    // What the random calls reach is their own.
+    // What the random calls reach is to be their own doing.
     suite.twin.reached = Default::default();
     batches::run(suite);
-    println!("random: {}", batches::counted(&suite.twin));
     if suite.options.complete() {
         reached(suite);
         enough(suite);

@@ -580,3 +580,43 @@ fn bill_of(bill: ffi::Bill) -> second::Bill {
         length: bill.length,
     }
 }
+
+#[cfg(test)]
+mod tests {
+    use super::*;
+    use crate::bytes::{at, program, sent};
+
+    /// A twin whose first array holds one byte that the second's has not.
+    fn bent(at: usize) -> Twin {
+        let mut twin = Twin::new(Some(2));
+        twin.arrays().0[at] = 0x7F;
+        twin
+    }
+
+    fn found(twin: &mut Twin, bytes: &[u8]) -> bool {
+        twin.transact(&Call::new(Kept::awake(0), bytes)).is_err()
+    }
+
+    #[test]
+    fn what_a_call_is_aimed_at_is_compared_at_once() {
+        assert!(found(&mut bent(0x1234), &program(0x1200, &[0])));
+        assert!(found(&mut bent(0x1234), &at(0x20, 0x1FFF)));
+        assert!(found(&mut bent(0x1234), &[0x03, 0, 0x12, 0x34, 0]));
+        assert!(!found(&mut bent(0x1234), &program(0x3400, &[0])));
+        let tape = sent(&program(0x1200, &[0]));
+        assert!(
+            bent(0x1234)
+                .replay(&Playing::new(Kept::awake(0), &tape))
+                .is_err()
+        );
+    }
+
+    #[test]
+    fn the_rest_is_compared_every_so_often() {
+        let mut twin = bent(0x1234);
+        assert!(!found(&mut twin, &[0x06]));
+        assert!(found(&mut twin, &[0x06]));
+        assert!(bent(SIZE - 1).whole().is_err());
+        assert!(Twin::new(None).whole().is_ok());
+    }
+}

@@ -11,7 +11,7 @@ use crate::{Checked, same};
 /// Random calls through the wrapper, against the second's numbers.
 pub const PLAN: Plan = Plan {
     name: "wrapper",
-    batches: 5,
+    batches: 10,
     run: wrapper,
 };
 
