@@ -6,13 +6,14 @@ use std::time::{Duration, Instant};
 use tunebriar::ffi::{Meter, Regs};
 
 use crate::bytes::aim;
-use crate::edges::FAR;
+use crate::calls::{Call, Kept, Playing};
 use crate::generate::{self, Sent};
 use crate::options::Options;
 use crate::reached::Entry;
 use crate::rng::Rng;
 use crate::suite::Suite;
-use crate::twin::{Call, Kept, Playing, Twin};
+use crate::tape_edges::FAR;
+use crate::twin::Twin;
 use crate::{Checked, FULL, SIZE};
 
 /// A kind of batch.
@@ -72,7 +73,7 @@ const FURTHER: u64 = 1_000_000;
 fn plans() -> Vec<Plan> {
     let plans = PLANS.into_iter();
     #[cfg(feature = "jobs")]
-    let plans = plans.chain(crate::jobs::PLANS);
+    let plans = plans.chain(crate::job_batches::PLANS);
     plans.chain([crate::typed::PLAN]).collect()
 }
 

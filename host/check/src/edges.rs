@@ -1,39 +1,26 @@
-//! The edges of every number, length and pointer, each with the number that
-//! the paper gives for it, and by both emulators.
+//! The edges of every number, length and pointer of a transaction, each with the
+//! number that the paper gives for it, and by both emulators.
 
 use tunebriar::ffi::{self, Lent, LentMut, Meter, Regs};
 
-use crate::bytes::{RECORD, at, done, finish, power_cycle, program, record, sent};
+use crate::bytes::{at, program, sent};
+use crate::calls::{Call, Kept, Playing};
 use crate::suite::Suite;
-use crate::twin::{Call, Kept, Playing, Twin};
+use crate::tape_edges::expect_replay;
+use crate::twin::Twin;
 use crate::{Checked, FULL, SIZE, same};
 
 const WEL: u32 = 2;
 /// Part numbers that are not 1, some of which end in a byte 1.
 pub const OTHER_PARTS: [u32; 7] = [0, 2, 3, 257, 65_537, 0x0100_0001, u32::MAX];
-/// Places and counts at which 264 times the place leaves 64 bits, or wraps to
-/// a place that is on the tape.
-pub const FAR: [u64; 10] = [
-    1 << 31,
-    1 << 32,
-    (1 << 32) + 1,
-    u64::MAX / 264,
-    u64::MAX / 264 + 1,
-    1 << 61,
-    (1 << 61) + 1,
-    1 << 63,
-    u64::MAX - 1,
-    u64::MAX,
-];
 
-/// All edges but those of jobs.
+/// The edges of transactions, and those that all calls have.
 pub fn run(suite: &mut Suite) {
     suite.check("edges/longest transaction", longest);
     suite.check("edges/output one short", output_one_short);
     suite.check("edges/output longer", output_longer);
     suite.check("edges/full counts", full_counts);
     suite.check("edges/counts reach the top", counts_reach_the_top);
-    suite.check("edges/room for a tape", room_for_a_tape);
     suite.check("edges/other parts", other_parts);
     suite.check("edges/array lengths", array_lengths);
     suite.check("edges/wide registers", wide_registers);
@@ -41,11 +28,6 @@ pub fn run(suite: &mut Suite) {
     suite.check("edges/level of WP", level_of_wp);
     suite.check("edges/empty slices", empty_slices);
     suite.check("edges/null pointers", null_pointers);
-    suite.check("edges/far places", far_places);
-    suite.check("edges/first k", first_k);
-    suite.check("edges/heads of a record", heads_of_a_record);
-    suite.check("edges/tails of a record", tails_of_a_record);
-    suite.check("edges/tapes not whole", tapes_not_whole);
     suite.check("edges/addresses past the chip", addresses_past_the_chip);
     suite.check("edges/long programs", long_programs);
     suite.check("edges/erases", erases);
@@ -66,22 +48,8 @@ fn expect(twin: &mut Twin, call: &Call, number: u32) -> Checked<second::Answer> 
     Ok(answer)
 }
 
-fn expect_replay(twin: &mut Twin, call: &Playing, number: u32, index: u64) -> Checked {
-    let answer = twin.replay(call)?;
-    let told = (answer.number, answer.index);
-    same(
-        format_args!("number and index of {call}"),
-        &told,
-        &(number, index),
-    )?;
-    if number != 0 {
-        same("kept on a refusal", &Kept::from(answer), &call.kept)?;
-    }
-    Ok(())
-}
-
 /// Four counts, all 5 but for the one at `which`.
-fn one_count(which: usize, count: u32) -> Meter {
+pub(crate) fn one_count(which: usize, count: u32) -> Meter {
     let mut counts = [5; 4];
     counts[which] = count;
     let [programs, erases, writes, ignored] = counts;
@@ -171,32 +139,6 @@ fn counts_reach_the_top(twin: &mut Twin) -> Checked {
         let reached = Kept::from(answer);
         same("the count", &reached.meter, &one_count(which, FULL))?;
         expect(twin, &Call::new(reached, bytes), 7)?;
-    }
-    Ok(())
-}
-
-fn room_for_a_tape(twin: &mut Twin) -> Checked {
-    let tape = [done(&at(0x20, 0)), power_cycle(), sent(&[0x05, 0])].concat();
-    let records = 5;
-    for which in 0..4 {
-        for (count, number) in [(FULL - records, 0), (FULL - records + 1, 7), (FULL, 7)] {
-            let mut kept = Kept::awake(0);
-            kept.meter = one_count(which, count);
-            for k in [None, Some(0), Some(1), Some(u64::MAX)] {
-                expect_replay(
-                    twin,
-                    &Playing {
-                        k,
-                        ..Playing::new(kept, &tape)
-                    },
-                    number,
-                    0,
-                )?;
-            }
-        }
-        let mut kept = Kept::awake(0);
-        kept.meter = one_count(which, FULL);
-        expect_replay(twin, &Playing::new(kept, &[]), 0, 0)?;
     }
     Ok(())
 }
@@ -335,153 +277,7 @@ fn null_pointers(twin: &mut Twin) -> Checked {
     let answer = ffi::transact(numbers, array.into(), LentMut::NULL, (&[0x06][..]).into());
     same("no output", &answer.number, &6)?;
     let answer = ffi::transact(numbers, LentMut::NULL, LentMut::NULL, Lent::NULL);
-    same("nothing at all", &answer.number, &2)?;
-    null_tapes(array, kept)
-}
-
-fn null_tapes(array: &mut [u8], kept: Kept) -> Checked {
-    let Kept { regs, meter } = kept;
-    let answer = ffi::replay(1, regs, meter, array.into(), Lent::NULL);
-    let told = (answer.number, answer.index, answer.regs, answer.meter);
-    same("no tape", &told, &(0, 0, regs, meter))?;
-    let answer = ffi::replay_first(1, regs, meter, array.into(), Lent::NULL, 3);
-    same(
-        "no tape, first 3",
-        &(answer.number, answer.regs),
-        &(0, regs),
-    )?;
-    let answer = ffi::replay(1, regs, meter, LentMut::NULL, Lent::NULL);
-    same("no array", &answer.number, &2)?;
-    let end = ffi::Record {
-        kind: 3,
-        next: 9,
-        ..ffi::Record::default()
-    };
-    same("read", &ffi::read(Lent::NULL, 9), &end)
-}
-
-fn far_places(twin: &mut Twin) -> Checked {
-    let good = [sent(&[0x06]), finish(), power_cycle(), record(0, 15, &[])].concat();
-    let mut bad = good.clone();
-    bad[2] = 3;
-    let tapes = [&[][..], &good, &bad, &good[..263], &good[..265], &[0; 1]];
-    for tape in tapes {
-        let records = (tape.len() / RECORD) as u64;
-        let near = 0..records + 3;
-        for place in near.chain(FAR) {
-            let read = twin.read(tape, place)?;
-            let stays = read.kind > 2;
-            same("next", &read.next, &(if stays { place } else { place + 1 }))?;
-        }
-    }
-    let kinds = [0, 1, 2, 0, 3].into_iter().zip(0..);
-    kinds
-        .into_iter()
-        .try_for_each(|(kind, place)| same("kind", &twin.read(&good, place)?.kind, &kind))
-}
-
-fn first_k(twin: &mut Twin) -> Checked {
-    let work = [
-        done(&program(0x10, &[0x0F; 256])),
-        done(&[0x01, 0x04, 0x02]),
-    ]
-    .concat();
-    let tape = [
-        work,
-        done(&at(0x20, 0x1F_F000)),
-        power_cycle(),
-        sent(&[0xB9]),
-    ]
-    .concat();
-    let records = (tape.len() / RECORD) as u64;
-    for k in (0..records + 3).chain(FAR) {
-        twin.set(0, &[0xFF; 512]);
-        expect_replay(
-            twin,
-            &Playing {
-                k: Some(k),
-                ..Playing::new(Kept::awake(0x80), &tape)
-            },
-            0,
-            0,
-        )?;
-    }
-    let bad = [tape, record(3, 0, &[])].concat();
-    for k in [0, 1, records, u64::MAX] {
-        let call = Playing {
-            k: Some(k),
-            ..Playing::new(Kept::awake(0), &bad)
-        };
-        expect_replay(twin, &call, 31, records)?;
-    }
-    Ok(())
-}
-
-/// A record between two good ones, by a replay and by a read.
-fn one_record(twin: &mut Twin, record: &[u8], bad: bool) -> Checked {
-    let tape = [&sent(&[0x06]), record, &finish()].concat();
-    let (number, index) = if bad { (31, 1) } else { (0, 0) };
-    expect_replay(twin, &Playing::new(Kept::awake(0), &tape), number, index)?;
-    same("read", &twin.read(&tape, 1)?.number, &number)
-}
-
-/// The head of a record: length, kind and byte 3, bad and just good.
-fn heads_of_a_record(twin: &mut Twin) -> Checked {
-    for length in [0, 1, 255, 256, 259, 260, 261, 262, 511, 512, 65_535_u16] {
-        let mut bytes = record(0, 8, &[]);
-        bytes[..2].copy_from_slice(&length.to_be_bytes());
-        one_record(twin, &bytes, length > 260)?;
-        bytes[RECORD - 1] = 1;
-        one_record(twin, &bytes, length != 260)?;
-    }
-    for byte in 0..=255 {
-        one_record(twin, &record(byte, 0, &[]), byte > 2)?;
-        one_record(twin, &record(0, byte, &[0x05, 0]), byte > 15)?;
-        one_record(twin, &record(1, byte, &[]), byte > 0)?;
-        one_record(twin, &record(2, byte, &[]), byte > 0)?;
-    }
-    Ok(())
-}
-
-/// One byte that is not 0, at every place of a record of every kind.
-fn tails_of_a_record(twin: &mut Twin) -> Checked {
-    for place in (0..RECORD).filter(|&place| place != 2) {
-        for kind in [1, 2] {
-            let mut bytes = record(kind, 0, &[]);
-            bytes[place] = 0x80;
-            one_record(twin, &bytes, true)?;
-        }
-    }
-    for place in 4..RECORD {
-        for length in [0, 1, 130, 259, 260] {
-            let mut bytes = record(0, 0, &vec![0; length]);
-            bytes[place] = 0x80;
-            one_record(twin, &bytes, place >= 4 + length)?;
-        }
-    }
-    Ok(())
-}
-
-fn tapes_not_whole(twin: &mut Twin) -> Checked {
-    let tape = [done(&at(0x20, 0)), record(9, 9, &[9])].concat();
-    for length in [1, 4, 263, 265, 527, 529, 1_055] {
-        for k in [None, Some(0), Some(u64::MAX)] {
-            let call = Playing {
-                k,
-                ..Playing::new(Kept::awake(0), &tape[..length])
-            };
-            expect_replay(twin, &call, 30, 0)?;
-        }
-        for place in [0, 1, 4, u64::MAX] {
-            let read = twin.read(&tape[..length], place)?;
-            same(
-                "read",
-                &(read.kind, read.number, read.next),
-                &(4, 30, place),
-            )?;
-        }
-    }
-    Ok(())
+    same("nothing at all", &answer.number, &2)
 }
 
 fn addresses_past_the_chip(twin: &mut Twin) -> Checked {

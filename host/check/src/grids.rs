@@ -4,8 +4,9 @@
 use tunebriar::ffi::{Meter, Regs};
 
 use crate::bytes::{at, program};
+use crate::calls::{Call, Kept};
 use crate::suite::Suite;
-use crate::twin::{Call, Kept, Twin};
+use crate::twin::Twin;
 use crate::{Checked, SIZE};
 
 /// All grids.

@@ -9,18 +9,22 @@ use core::fmt::{Debug, Display};
 
 pub mod batches;
 pub mod bytes;
+pub mod calls;
 pub mod edges;
 pub mod generate;
 pub mod grids;
 pub mod guarded;
 #[cfg(feature = "jobs")]
-pub mod jobs;
+pub mod job_batches;
+#[cfg(feature = "jobs")]
+pub mod job_edges;
 pub mod options;
 pub mod orders;
 pub mod reached;
 pub mod readings;
 pub mod rng;
 pub mod suite;
+pub mod tape_edges;
 pub mod twin;
 pub mod typed;
 

@@ -7,7 +7,7 @@ use std::process::ExitCode;
 use check::options::{Options, USAGE};
 use check::reached::Entry;
 use check::suite::Suite;
-use check::{batches, edges, grids, orders, readings};
+use check::{batches, edges, grids, orders, readings, tape_edges};
 
 /// Transactions, replays and translations that a whole run must compare.
 const AT_LEAST: u64 = 1_000_000;
@@ -38,9 +38,10 @@ fn main() -> ExitCode {
 fn all(suite: &mut Suite) {
     readings::run(suite);
     edges::run(suite);
+    tape_edges::run(suite);
     orders::run(suite);
     #[cfg(feature = "jobs")]
-    check::jobs::run(suite);
+    check::job_edges::run(suite);
     grids::run(suite);
     // What the random calls reach is to be their own doing.
     suite.twin.reached = Default::default();

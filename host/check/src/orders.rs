@@ -4,8 +4,9 @@
 use tunebriar::ffi::{Meter, Regs};
 
 use crate::bytes::{record, sent};
+use crate::calls::{Call, Kept, Playing};
 use crate::suite::Suite;
-use crate::twin::{Call, Kept, Playing, Twin};
+use crate::twin::Twin;
 use crate::{Checked, FULL, SIZE, same};
 
 /// The orders of a transaction and of a replay.

@@ -1,8 +1,9 @@
 //! The bench readings B1 to B14, each by its own name, through the C interface.
 
 use crate::bytes::{at, program};
+use crate::calls::{Call, Kept};
 use crate::suite::Suite;
-use crate::twin::{Call, Kept, Twin};
+use crate::twin::Twin;
 use crate::{Checked, SIZE, same};
 
 const WEL: u32 = 2;
@@ -138,8 +139,8 @@ fn b12(twin: &mut Twin) -> Checked {
 }
 
 #[cfg(feature = "jobs")]
-fn job(setting: u32, steps: Vec<u8>, payload: &[u8], tape: usize) -> crate::twin::Job {
-    crate::twin::Job {
+fn job(setting: u32, steps: Vec<u8>, payload: &[u8], tape: usize) -> crate::calls::Job {
+    crate::calls::Job {
         part: 1,
         setting,
         steps,

@@ -253,7 +253,7 @@ mod tests {
                 writes: meter.writes,
                 ignored: meter.ignored,
             };
-            let (regs, meter) = (check::twin::regs_of(regs), check::twin::meter_of(meter));
+            let (regs, meter) = (check::calls::regs_of(regs), check::calls::meter_of(meter));
             let expected = second::replay(1, regs, meter, &mut mirror, &tape);
             let (number, index) = replay(&mut state, &mut array, &tape)
                 .err()
