@@ -1,24 +1,28 @@
 -- A job is refused only for document 01's reasons: of a job that passes 1, 20 and 21, "each step in order for 22 to 25", with
 -- "the first bad record's index".
-use mathlib.Core.Path.{_≡_, refl, sym, ap, _∙_, subst}
+use mathlib.Core.Path.{_≡_, refl, sym, ap, _∙_}
 use mathlib.Core.Bool.{Bool, true, false, not}
 use mathlib.Core.List.{List}
 use mathlib.Core.Logic.{⊎-elim, _↔_}
 use Prim.Native.Nat.{ℕ, zero, suc, _+_, _≤_, _<_}
 use native.Mathlib.Omega.{arith}
 use native.Mathlib.Nat.{eq-or-lt-of-le}
-use borrow.Author.Tests.{eqb-true, eqb-false, eq-eqb, ne-eqb, le-ltb}
+use borrow.Author.Tests.{eqb-true, eqb-false, ne-eqb, le-ltb, ltb-true, ltb-false}
 use lib.Dec.{eqb}
 use Rattle.lists.specs.Choice.{if_then_else_, _<?_}
+use Rattle.lists.specs.declared.Found.{Found}
+use Rattle.lists.specs.declared.Found.the-variants.{At, Nothing}
+use Rattle.lists.proofs.Search.{Lowest, first-at}
 use Rattle.rules.specs.declared.Step.{Step}
 use Rattle.rules.specs.declared.Decoded.{Decoded}
 use Rattle.rules.specs.declared.Decoded.the-variants.{Good, Bad}
 use Rattle.rules.specs.declared.Refusal.{Refusal}
 use Rattle.rules.specs.Part.{Part}
 use Rattle.rules.specs.Parts.{isPart, partOf}
+use Rattle.rules.specs.Protection.{isProtected, firstProtected}
 use Rattle.rules.specs.Job.{settingLimit, stepAt, stepCount}
-use Rattle.rules.specs.Refusals.{refusalAt, _orElse_}
-use Rattle.rules.specs.JobRefusals.{unfit, outside, beyond, shielded, stepNumber, decodedNumber, settingAfter, stepsRefusal, jobRefusal}
+use Rattle.rules.specs.Refusals.{refusal, refusalAt, _orElse_}
+use Rattle.rules.specs.JobRefusals.{unfit, outside, beyond, stepStart, stepReach, some, shielded, stepNumber, decodedNumber, stepsRefusal, jobRefusal}
 use Rattle.job.specs.Carried.{settingAt}
 
 -- ---- the statement
@@ -62,6 +66,15 @@ number-means p s pl (Good w) n e z = go (outside p w) (beyond pl w) (shielded p 
     go false false true a b c q =
         record { in-table = omega arith; for-22 = λ k. absurd (omega arith); for-23 = λ k. absurd (omega arith); for-24 = λ k. absurd (omega arith); for-25 = λ k. (w, refl, a, b, c) }
     go false false false a b c q = absurd (z (sym q))
+
+-- 25 is given for a byte of the unit or span: the lowest that is protected at setting s
+pub shielded-byte : (p : Part) (s : ℕ) (w : Step) → shielded p s w ≡ true → (y : ℕ) × Lowest (isProtected p s) (stepStart w) (stepReach p w) y
+unfolding shielded firstProtected
+shielded-byte p s w e = go (firstProtected p s (stepStart w) (stepReach p w)) refl e
+  where
+    go : (f : Found) → firstProtected p s (stepStart w) (stepReach p w) ≡ f → some f ≡ true → (y : ℕ) × Lowest (isProtected p s) (stepStart w) (stepReach p w) y
+    go (At y) q h = (y, first-at (isProtected p s) (stepStart w) (stepReach p w) y q)
+    go Nothing q h = let z : _≡_ {A = ℕ} 0 1 = cc in absurd (omega arith)
 
 -- ---- the first of n steps
 
@@ -134,3 +147,31 @@ module _ (part s : ℕ) (job : List ℕ) (pl : ℕ) (known : isPart part ≡ tru
   -- .. and then for the reason that document 01 gives for n
   pub job-refused-because : (n i : ℕ) → (n ≡ 0 → ⊥) → jobRefusal part s job pl ≡ refusalAt n i → Because (partOf part) (settingAt job s i) pl (stepAt job i) n
   job-refused-because n i z e = number-means (partOf part) (settingAt job s i) pl (stepAt job i) n (job-refused-at n i z .0 e .number) z
+
+-- ---- all that a job is refused for: "checks 1, 20, 21, then each step in order for 22 to 25"
+
+pub data Why (part s : ℕ) (job : List ℕ) (pl : ℕ) : Refusal → Type 0 where
+  for-1 : isPart part ≡ false → Why part s job pl (refusal 1)
+  for-20 : isPart part ≡ true → unfit job pl ≡ true → Why part s job pl (refusal 20)
+  for-21 : isPart part ≡ true → unfit job pl ≡ false → settingLimit < s → Why part s job pl (refusal 21)
+  for-step : isPart part ≡ true → unfit job pl ≡ false → s ≤ settingLimit → (n i : ℕ) → First (numberAt (partOf part) s pl job) 0 (stepCount job) n i
+      → Because (partOf part) (settingAt job s i) pl (stepAt job i) n → Why part s job pl (refusalAt n i)
+
+pub job-refused-only-why : (part s : ℕ) (job : List ℕ) (pl : ℕ) → (jobRefusal part s job pl .number ≡ 0 → ⊥) → Why part s job pl (jobRefusal part s job pl)
+unfolding jobRefusal settingAt if_then_else_
+job-refused-only-why part s job pl h = go (isPart part) (unfit job pl) (settingLimit <? s) refl refl refl h
+  where
+    z : Refusal
+    z = stepsRefusal (partOf part) s pl job 0 (stepCount job)
+
+    go : (k u o : Bool) → isPart part ≡ k → unfit job pl ≡ u → (settingLimit <? s) ≡ o
+        → ((if not k then refusal 1 else if u then refusal 20 else if o then refusal 21 else z) .number ≡ 0 → ⊥)
+        → Why part s job pl (if not k then refusal 1 else if u then refusal 20 else if o then refusal 21 else z)
+    go false u o e f g h = for-1 e
+    go true true o e f g h = for-20 e f
+    go true false true e f g h = for-21 e f (ltb-true settingLimit s g)
+    go true false false e f g h =
+        let small = ltb-false settingLimit s g in
+        let q = the-steps part s job pl e f small in
+        for-step e f small (z .number) (z .index) (job-refused-at part s job pl e f small (z .number) (z .index) h .0 q)
+        (job-refused-because part s job pl e f small (z .number) (z .index) h q)

@@ -7,7 +7,7 @@ use Prim.Native.Nat.{ℕ, zero, suc, _≤_}
 use native.Mathlib.Omega.{arith}
 use lib.Dec.{eqb}
 use lib.ListN.{length, getD}
-use borrow.Author.Tests.{eq-eqb, eqb-true, eqb-false, le-leb}
+use borrow.Author.Tests.{eq-eqb, eqb-false, le-leb}
 use Rattle.lists.specs.Choice.{if_then_else_, _=?_, _≤?_}
 use Rattle.lists.proofs.Choice.{either-false}
 use Rattle.lists.specs.declared.Found.{Found}

@@ -15,7 +15,7 @@ use Rattle.rules.specs.declared.Step.the-variants.{Erase, Lay, Guard}
 use Rattle.rules.specs.declared.Decoded.{Decoded}
 use Rattle.rules.specs.declared.Decoded.the-variants.{Good, Bad}
 use Rattle.rules.specs.Parts.{partOf}
-use Rattle.rules.specs.Status.{regsOf, flag, statusOf, keptOf, withWel}
+use Rattle.rules.specs.Status.{regsOf, statusOf, keptOf, withWel}
 use Rattle.rules.specs.Replay.{ReplaySeen, replayOf}
 use Rattle.rules.specs.Job.{settingLimit, stepAt, stepCount, withStep, stepsFrom, stepsOf, settingMeant, regsMeant, allRegsMeant}
 use Rattle.rules.specs.JobRefusals.{settingAfter}
