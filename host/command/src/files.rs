@@ -56,6 +56,22 @@ fn plain(error: &std::io::Error) -> String {
     }
 }
 
+/// One name for a file, however it is called. A link is followed, so that what
+/// it points to is replaced, not the link; of a file that is not there yet, the
+/// folder is.
+#[must_use]
+pub fn real(path: &Path) -> PathBuf {
+    let beside = || {
+        let folder = match path.parent()? {
+            folder if folder.as_os_str().is_empty() => Path::new("."),
+            folder => folder,
+        };
+        Some(fs::canonicalize(folder).ok()?.join(path.file_name()?))
+    };
+    let there = fs::canonicalize(path).ok();
+    there.or_else(beside).unwrap_or_else(|| path.to_path_buf())
+}
+
 /// New contents that lie beside their files until all of them are there.
 ///
 /// A killed run leaves the old files whole; a failed one also removes what it
@@ -63,6 +79,7 @@ fn plain(error: &std::io::Error) -> String {
 #[derive(Debug, Default)]
 pub struct Staged {
     files: Vec<Beside>,
+    spared: Vec<PathBuf>,
 }
 
 #[derive(Debug)]
@@ -80,8 +97,7 @@ impl Beside {
         let Some(name) = path.file_name() else {
             return Err(Error::file(path, "cannot be written: this is no file name"));
         };
-        // A link is followed, so that what it points to is replaced, not the link.
-        let path = fs::canonicalize(path).unwrap_or_else(|_| path.to_path_buf());
+        let path = real(path);
         let place = LAID.fetch_add(1, Ordering::Relaxed);
         let name = path.file_name().unwrap_or(name).to_string_lossy();
         let beside = |end: &str| {
@@ -121,6 +137,16 @@ impl Beside {
 }
 
 impl Staged {
+    /// For a call that makes files from these: none of them may be among what
+    /// it writes.
+    #[must_use]
+    pub fn sparing(sources: &[&Path]) -> Staged {
+        Staged {
+            files: Vec::new(),
+            spared: sources.iter().map(|source| real(source)).collect(),
+        }
+    }
+
     /// Lays the new contents of a file beside it.
     ///
     /// # Errors
@@ -128,6 +154,12 @@ impl Staged {
     /// Where they cannot be written.
     pub fn lay(&mut self, path: &Path, bytes: &[u8]) -> Result<(), Error> {
         let beside = Beside::of(path)?;
+        if self.spared.contains(&beside.path) {
+            return Err(Error::file(
+                path,
+                "would be replaced by what is made from it",
+            ));
+        }
         if self.files.iter().any(|other| other.path == beside.path) {
             return Err(Error::file(path, "would be written twice by this call"));
         }

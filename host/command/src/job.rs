@@ -46,7 +46,7 @@ pub fn run(args: &Args, said: &mut String) -> Result<(), Error> {
 
 fn forth(args: &Args, said: &mut String) -> Result<(), Error> {
     let job = job_text::read(args.path(0))?;
-    let mut staged = Staged::default();
+    let mut staged = Staged::sparing(&[args.path(0)]);
     staged.lay(args.path(1), &job.records)?;
     staged.lay(args.path(2), &job.payload)?;
     staged.commit()?;
@@ -65,7 +65,7 @@ fn back(args: &Args, said: &mut String) -> Result<(), Error> {
         payload: files::read(payload)?,
     };
     let written = job_text::write(path, &job, &called(text, payload))?;
-    let mut staged = Staged::default();
+    let mut staged = Staged::sparing(&[path, payload]);
     staged.lay(text, written.as_bytes())?;
     staged.commit()?;
     let records = grouped(job.records.len() / RECORD);

@@ -48,7 +48,7 @@ pub fn run(args: &Args, said: &mut String) -> Result<(), Error> {
         let image = image.unwrap_or(array);
         Error::refused(about(refusal, image, state, image), refusal)
     })?;
-    let mut staged = Staged::default();
+    let mut staged = Staged::sparing(image.as_slice());
     staged.lay(array, &chip.array)?;
     staged.lay(state, state_file::text(chip.state).as_bytes())?;
     staged.commit()?;

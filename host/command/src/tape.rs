@@ -41,10 +41,11 @@ const MOST: usize = 260;
 /// Refusals 30 and 31; files.
 pub fn run(args: &Args, said: &mut String) -> Result<(), Error> {
     let (text, tape) = (args.path(0), args.path(1));
-    let (path, bytes, records) = if args.flag("back") {
+    let (source, path, bytes, records) = if args.flag("back") {
         absent_or_forced(args, text)?;
         let tape_bytes = files::read(tape)?;
         (
+            tape,
             text,
             back(tape, &tape_bytes)?.into_bytes(),
             tape_bytes.len() / RECORD,
@@ -52,9 +53,9 @@ pub fn run(args: &Args, said: &mut String) -> Result<(), Error> {
     } else {
         let bytes = forth(text)?;
         let records = bytes.len() / RECORD;
-        (tape, bytes, records)
+        (text, tape, bytes, records)
     };
-    let mut staged = Staged::default();
+    let mut staged = Staged::sparing(&[source]);
     staged.lay(path, &bytes)?;
     staged.commit()?;
     let _ = writeln!(said, "{}: {} records", path.display(), grouped(records));

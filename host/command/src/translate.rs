@@ -55,7 +55,7 @@ pub fn run(args: &Args, said: &mut String) -> Result<(), Error> {
     // 64 lays of 17 pages at the most: a tape that surely fits.
     let mut tape = vec![0; usize::try_from(bill.tape).unwrap_or_default()];
     translate(PART, setting, &job, &payload, &mut tape).map_err(refused)?;
-    let mut staged = Staged::default();
+    let mut staged = Staged::sparing(&[args.path(0), args.path(1)]);
     staged.lay(args.path(2), &tape)?;
     staged.commit()?;
     let records = grouped(tape.len() / RECORD);

@@ -240,7 +240,8 @@ fn bars(text: &mut String, layout: &Layout, account: &Account, x: f64) {
             "<rect class=\"{class}\" data-department=\"{name}\" data-count=\"{count}\" \
              x=\"{left:.1}\" y=\"{top:.3}\" width=\"{wide:.1}\" height=\"{high:.3}\" \
              fill=\"{fill}\" stroke=\"{colour}\"><title>{name}: {shown} {words}</title></rect>\
-             <text x=\"{:.1}\" y=\"{:.3}\" font-size=\"11\" text-anchor=\"middle\">{shown}</text>",
+             <text x=\"{:.1}\" y=\"{:.3}\" font-size=\"11\" text-anchor=\"middle\" \
+             stroke=\"#ffffff\" stroke-width=\"3\" paint-order=\"stroke\">{shown}</text>",
             left + wide / 2.0,
             top - 4.0,
         );

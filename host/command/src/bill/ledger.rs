@@ -2,8 +2,7 @@
 
 use super::csv;
 use crate::error::Error;
-use crate::files;
-use std::fs::canonicalize;
+use crate::files::{self, real};
 use std::path::{Path, PathBuf};
 
 /// A tape and the chip that it is played on.
@@ -120,9 +119,4 @@ fn apart(path: &Path, departments: &[Department]) -> Result<(), Error> {
         }
     }
     Ok(())
-}
-
-/// One name for a file, however it is called; a missing file is found later.
-fn real(path: &Path) -> PathBuf {
-    canonicalize(path).unwrap_or_else(|_| path.to_path_buf())
 }

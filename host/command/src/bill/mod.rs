@@ -12,6 +12,7 @@ pub mod table;
 use crate::args::{Args, Shape};
 use crate::error::Error;
 use crate::files::Staged;
+use ledger::Department;
 use month::Account;
 use prices::Prices;
 use std::fmt::Write;
@@ -58,7 +59,7 @@ pub fn run(args: &Args, said: &mut String) -> Result<(), Error> {
     }
     let folder = Path::new(args.option("out").unwrap_or("."));
     let (csv, svg) = (folder.join("bill.csv"), folder.join("bill.svg"));
-    let mut staged = Staged::default();
+    let mut staged = Staged::sparing(&sources(args, &departments));
     for account in &mut accounts {
         staged.join(std::mem::take(&mut account.kept));
     }
@@ -69,6 +70,13 @@ pub fn run(args: &Args, said: &mut String) -> Result<(), Error> {
     said.push_str(&table::reasons(&accounts));
     let _ = writeln!(said, "written: {}, {}", csv.display(), svg.display());
     Ok(())
+}
+
+/// What the bill is made from; the chips too, though `--keep` renews them.
+fn sources<'a>(args: &'a Args, departments: &'a [Department]) -> Vec<&'a Path> {
+    let rows = departments.iter().flat_map(|one| &one.rows);
+    let files = rows.flat_map(|row| [row.array.as_path(), &row.state, &row.tape]);
+    files.chain([args.path(0), args.path(1)]).collect()
 }
 
 fn served(accounts: &[Account]) -> Result<(), Error> {
