@@ -15,11 +15,13 @@ impl Progress {
     /// For so many tapes.
     #[must_use]
     pub fn new(all: usize) -> Progress {
-        Progress {
+        let progress = Progress {
             all,
             done: Mutex::new(0),
             shown: stderr().is_terminal(),
-        }
+        };
+        progress.show(0);
+        progress
     }
 
     /// One more is done.
@@ -28,8 +30,12 @@ impl Progress {
             return;
         };
         *done += 1;
+        self.show(*done);
+    }
+
+    fn show(&self, done: usize) {
         if self.shown {
-            let (percent, all) = (*done * 100 / self.all.max(1), self.all);
+            let (percent, all) = (done * 100 / self.all.max(1), self.all);
             let _ = write!(stderr(), "\r{percent:>3}%  {done} of {all} tapes played");
         }
     }

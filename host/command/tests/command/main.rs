@@ -5,6 +5,7 @@ mod bad_files;
 mod bad_words;
 mod common;
 mod good;
+mod guide;
 mod month;
 mod refused;
 mod whole;

@@ -28,6 +28,8 @@ fn the_sample_month_is_the_stored_bill() {
     let said = folder.served("bill ledger.csv prices.txt");
     let stored = std::fs::read_to_string(example().join("bill.csv")).expect("stored");
     assert_eq!(folder.text("bill.csv"), stored);
+    let stored = std::fs::read_to_string(example().join("bill.svg")).expect("stored");
+    assert!(folder.text("bill.svg") == stored, "the stored picture");
     // Counted by hand from the texts: 48 programs and 16 erases never happened.
     for line in [
         "telemetry       2        17       2           0       70        1.04\n",
