@@ -9,10 +9,14 @@ use crate::numbers::grouped;
 use std::fmt::Write;
 
 /// Where the bars stand, in pixels.
-const LEFT: f64 = 90.0;
 const TOP: f64 = 110.0;
 const PLOT: f64 = 320.0;
 const GAP: f64 = 34.0;
+const RIGHT: f64 = 20.0;
+/// No picture is narrower, so that its legend fits.
+const NARROWEST: f64 = 860.0;
+/// What a letter takes, roughly, and rather too much than too little.
+const LETTER: f64 = 7.0;
 
 /// A kind of bar: its class, its colour, whether it is hatched, its words.
 struct Series {
@@ -70,6 +74,7 @@ fn figures(account: &Account) -> [u64; 5] {
 struct Layout {
     top: u64,
     step: u64,
+    left: f64,
     slot: f64,
     group: f64,
     width: f64,
@@ -77,20 +82,32 @@ struct Layout {
 }
 
 impl Layout {
-    fn of(accounts: &[Account], feet: usize) -> Layout {
+    fn of(accounts: &[Account], feet: &[String]) -> Layout {
         let most = accounts.iter().flat_map(figures).max().unwrap_or(0).max(1);
         let step = step(most);
-        let digits = grouped(most).len() as f64;
-        let slot = (7.0 * digits + 4.0).max(30.0);
-        let group = slot * SERIES.len() as f64 + GAP;
+        let top = most.div_ceil(step).saturating_mul(step);
+        let number = LETTER * grouped(top).len() as f64;
+        let (left, slot) = (number + 55.0, (number + 4.0).max(30.0));
+        let groups = accounts.len().max(1) as f64;
+        let spread = (NARROWEST - left - RIGHT) / groups;
+        let group = (slot * SERIES.len() as f64 + GAP).max(spread);
+        let foot = feet.iter().map(|foot| foot.chars().count()).max();
+        let foot = LETTER * foot.unwrap_or(0) as f64 + 2.0 * RIGHT;
         Layout {
-            top: most.div_ceil(step).saturating_mul(step),
+            top,
             step,
+            left,
             slot,
             group,
-            width: (LEFT + group * accounts.len() as f64 + 20.0).max(860.0),
-            height: TOP + PLOT + 90.0 + 18.0 * feet as f64,
+            width: (left + group * groups + RIGHT).max(foot).ceil(),
+            height: TOP + PLOT + 90.0 + 18.0 * feet.len() as f64,
         }
+    }
+
+    /// Where a department's first bar begins.
+    fn start(&self, place: usize) -> f64 {
+        let bars = self.slot * SERIES.len() as f64;
+        self.left + self.group * place as f64 + (self.group - bars) / 2.0
     }
 
     /// How high a bar for this count is.
@@ -117,12 +134,12 @@ fn step(most: u64) -> u64 {
 #[must_use]
 pub fn svg(accounts: &[Account], prices: &Prices) -> String {
     let feet = feet(accounts);
-    let layout = Layout::of(accounts, feet.len());
+    let layout = Layout::of(accounts, &feet);
     let mut text = head(&layout);
     legend(&mut text);
     axes(&mut text, &layout);
     for (place, account) in accounts.iter().enumerate() {
-        let x = LEFT + GAP / 2.0 + layout.group * place as f64;
+        let x = layout.start(place);
         bars(&mut text, &layout, account, x);
         names(&mut text, &layout, account, prices, x);
     }
@@ -192,27 +209,27 @@ fn legend(text: &mut String) {
              <text x=\"{}\" y=\"84\">{words}</text>",
             x + 22.0
         );
-        x += 48.0 + 7.0 * words.len() as f64;
+        x += 48.0 + LETTER * words.len() as f64;
     }
 }
 
 fn axes(text: &mut String, layout: &Layout) {
-    let (right, floor) = (layout.width - 20.0, TOP + PLOT);
+    let (left, right, floor) = (layout.left, layout.width - RIGHT, TOP + PLOT);
     for count in (0..=layout.top / layout.step).map(|line| line * layout.step) {
         let y = floor - layout.high(count);
         let (at, shown) = (y + 4.0, grouped(count));
         let _ = writeln!(
             text,
-            "<path class=\"line\" stroke=\"#d0d0d0\" d=\"M{LEFT} {y:.3}H{right}\"/>\
+            "<path class=\"line\" stroke=\"#d0d0d0\" d=\"M{left} {y:.3}H{right}\"/>\
              <text x=\"{}\" y=\"{at:.3}\" text-anchor=\"end\">{shown}</text>",
-            LEFT - 8.0
+            left - 8.0
         );
     }
     let middle = TOP + PLOT / 2.0;
-    let centre = (LEFT + right) / 2.0;
+    let centre = (left + right) / 2.0;
     let _ = writeln!(
         text,
-        "<path class=\"axis\" stroke=\"#000000\" fill=\"none\" d=\"M{LEFT} {TOP}V{floor}H{right}\"/>\n\
+        "<path class=\"axis\" stroke=\"#000000\" fill=\"none\" d=\"M{left} {TOP}V{floor}H{right}\"/>\n\
          <text class=\"axis\" transform=\"translate(22 {middle}) rotate(-90)\" \
          text-anchor=\"middle\">commands</text>\n\
          <text class=\"axis\" x=\"{centre}\" y=\"{}\" text-anchor=\"middle\">\
@@ -250,7 +267,7 @@ fn bars(text: &mut String, layout: &Layout, account: &Account, x: f64) {
 
 /// The department's name and its amount, below its bars.
 fn names(text: &mut String, layout: &Layout, account: &Account, prices: &Prices, x: f64) {
-    let middle = x + (layout.group - GAP) / 2.0;
+    let middle = x + layout.slot * SERIES.len() as f64 / 2.0;
     let room = (layout.group / 7.5) as usize;
     let name = escaped(&shortened(&account.department, room));
     let amount = decimal(prices.amount(account.counts));
