@@ -10,6 +10,8 @@ use Rattle.rules.specs.declared.Verdict.{Verdict}
 use Rattle.rules.specs.declared.AtPlace.{AtPlace}
 use Rattle.rules.specs.Counts.{meteredOf}
 use Rattle.rules.specs.Tape.{readAt}
+use Rattle.tape.specs.Record.{readingAt}
+use Rattle.tape.specs.declared.Reading.{Reading}
 use Rattle.tape.specs.declared.Reader.{Reader}
 use Rattle.tape.specs.Moves.{found, after}
 use Rattle.claims.proofs.UniqueC.{same}
@@ -43,3 +45,9 @@ reader-read-unique r = both-same (found r) (after r)
 
 pub first-of-unique : (tape : List ℕ) (t u : AtPlace) → t ≡ readAt tape 0 → u ≡ readAt tape 0 → t ≡ u
 first-of-unique tape = same (readAt tape 0)
+
+pub read-from-unique : (tape : List ℕ) (place : ℕ) (t u : AtPlace) → t ≡ readAt tape place → u ≡ readAt tape place → t ≡ u
+read-from-unique tape place = same (readAt tape place)
+
+pub reading-at-unique : (tape : List ℕ) (place : ℕ) (r s : Reading) → r ≡ readingAt tape place → s ≡ readingAt tape place → r ≡ s
+reading-at-unique tape place = same (readingAt tape place)
