@@ -26,42 +26,26 @@ pub struct Plan {
     pub run: fn(&mut Twin, &mut Rng) -> Checked,
 }
 
+impl Plan {
+    /// A kind of batch, and how many of it there are.
+    #[must_use]
+    pub const fn new(
+        name: &'static str,
+        batches: u64,
+        run: fn(&mut Twin, &mut Rng) -> Checked,
+    ) -> Plan {
+        Plan { name, batches, run }
+    }
+}
+
 const PLANS: [Plan; 7] = [
-    Plan {
-        name: "chained",
-        batches: 80,
-        run: chained,
-    },
-    Plan {
-        name: "any registers",
-        batches: 40,
-        run: any_registers,
-    },
-    Plan {
-        name: "hostile",
-        batches: 40,
-        run: hostile,
-    },
-    Plan {
-        name: "full meters",
-        batches: 10,
-        run: full_meters,
-    },
-    Plan {
-        name: "replays",
-        batches: 60,
-        run: replays,
-    },
-    Plan {
-        name: "long replays",
-        batches: 8,
-        run: long_replays,
-    },
-    Plan {
-        name: "reads",
-        batches: 15,
-        run: reads,
-    },
+    Plan::new("chained", 80, chained),
+    Plan::new("any registers", 40, any_registers),
+    Plan::new("hostile", 40, hostile),
+    Plan::new("full meters", 10, full_meters),
+    Plan::new("replays", 60, replays),
+    Plan::new("long replays", 8, long_replays),
+    Plan::new("reads", 15, reads),
 ];
 
 /// Transactions of one batch.
@@ -135,16 +119,15 @@ fn soaked(twin: &mut Twin, options: &Options, plans: &[Plan], start: Instant) ->
 /// How much was compared so far.
 #[must_use]
 pub fn counted(twin: &Twin) -> String {
-    let calls =
-        |entries: &[Entry]| -> u64 { entries.iter().map(|&entry| twin.reached.calls(entry)).sum() };
+    let calls = |entry| twin.reached.calls(entry);
     format!(
         "{} transactions, {} replays, {} translations, {} quotes, {} reads, {} events",
-        calls(&[Entry::Transact]),
-        calls(&[Entry::Replay, Entry::ReplayFirst]),
-        calls(&[Entry::Translate]),
-        calls(&[Entry::Quote]),
-        calls(&[Entry::Read]),
-        calls(&[Entry::Finish, Entry::PowerCycle]),
+        calls(Entry::Transact),
+        calls(Entry::Replay) + calls(Entry::ReplayFirst),
+        calls(Entry::Translate),
+        calls(Entry::Quote),
+        calls(Entry::Read),
+        calls(Entry::Finish) + calls(Entry::PowerCycle),
     )
 }
 

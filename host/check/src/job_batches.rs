@@ -13,16 +13,8 @@ use crate::{Checked, SIZE, same};
 
 /// The random batches of jobs.
 pub const PLANS: [Plan; 2] = [
-    Plan {
-        name: "jobs",
-        batches: 40,
-        run: jobs,
-    },
-    Plan {
-        name: "jobs played",
-        batches: 15,
-        run: played,
-    },
+    Plan::new("jobs", 40, jobs),
+    Plan::new("jobs played", 15, played),
 ];
 
 /// A random step, mostly a good one where nothing is protected.
@@ -89,30 +81,33 @@ fn payload(rng: &mut Rng) -> Vec<u8> {
     rng.bytes(length)
 }
 
+/// A job good or bad, and no tape.
+pub(crate) fn any_job(rng: &mut Rng) -> Job {
+    let payload = payload(rng);
+    let setting = match rng.below(30) {
+        0 => rng.pick(&[32, 255, 256, u32::MAX]),
+        _ => rng.under(32),
+    };
+    let mut steps = match rng.below(3) {
+        0 => accepted(rng, setting, &payload, 12),
+        _ => any(rng, &payload),
+    };
+    if rng.one_in(3) {
+        spoil(rng, &mut steps);
+    }
+    Job {
+        part: generate::part(rng, 40),
+        setting,
+        steps,
+        payload,
+        tape: 0,
+    }
+}
+
 /// Jobs good and bad, into tapes long enough or not.
 fn jobs(twin: &mut Twin, rng: &mut Rng) -> Checked {
     for _ in 0..2_000 {
-        let payload = payload(rng);
-        let setting = if rng.one_in(30) {
-            rng.pick(&[32, 255, 256, u32::MAX])
-        } else {
-            rng.under(32)
-        };
-        let mut steps = match rng.below(3) {
-            0 => accepted(rng, setting, &payload, 12),
-            _ => any(rng, &payload),
-        };
-        if rng.one_in(3) {
-            spoil(rng, &mut steps);
-        }
-        let part = generate::part(rng, 40);
-        let mut job = Job {
-            part,
-            setting,
-            steps,
-            payload,
-            tape: 0,
-        };
+        let mut job = any_job(rng);
         let needed = twin.quote(&job)?.length as usize;
         job.tape = match rng.below(6) {
             0 => needed.saturating_sub(1),

@@ -102,11 +102,11 @@ impl Twin {
     ///
     /// Where the two differ in anything.
     pub fn transact(&mut self, call: &Call) -> Checked<second::Answer> {
-        self.transact_unsaid(call)
+        self.transacted(call)
             .map_err(|found| format!("{found}\n  {call}"))
     }
 
-    fn transact_unsaid(&mut self, call: &Call) -> Checked<second::Answer> {
+    fn transacted(&mut self, call: &Call) -> Checked<second::Answer> {
         self.prepare(call.out);
         let array = self.first.lent_as(call.array);
         let out = self.lent.lent_mut();
@@ -116,7 +116,7 @@ impl Twin {
             out.into(),
             call.bytes[..].into(),
         );
-        let second = self.transact_second(call);
+        let second = self.transacted_by_second(call);
         if second.number == 0 {
             self.reached
                 .carried_out(call.bytes.first().copied().unwrap_or(0));
@@ -128,7 +128,7 @@ impl Twin {
         Ok(second)
     }
 
-    fn transact_second(&mut self, call: &Call) -> second::Answer {
+    fn transacted_by_second(&mut self, call: &Call) -> second::Answer {
         let Numbers {
             part,
             regs,
@@ -188,13 +188,13 @@ impl Twin {
     ///
     /// Where the two differ in anything.
     pub fn replay(&mut self, call: &Playing) -> Checked<second::Answer> {
-        self.replay_unsaid(call)
+        self.replayed(call)
             .map_err(|found| format!("{found}\n  {call}"))
     }
 
-    fn replay_unsaid(&mut self, call: &Playing) -> Checked<second::Answer> {
-        let first = self.replay_first_one(call);
-        let second = self.replay_second_one(call);
+    fn replayed(&mut self, call: &Playing) -> Checked<second::Answer> {
+        let first = self.replayed_by_first(call);
+        let second = self.replayed_by_second(call);
         self.answers(call.entry(), first, second)?;
         for record in call.tape.chunks_exact(RECORD) {
             let sent = usize::from(u16::from_be_bytes([record[0], record[1]]));
@@ -205,7 +205,7 @@ impl Twin {
         Ok(second)
     }
 
-    fn replay_first_one(&mut self, call: &Playing) -> ffi::Answer {
+    fn replayed_by_first(&mut self, call: &Playing) -> ffi::Answer {
         let Kept { regs, meter } = call.kept;
         let (array, tape) = (self.first.lent_as(call.array).into(), call.tape.into());
         match call.k {
@@ -214,7 +214,7 @@ impl Twin {
         }
     }
 
-    fn replay_second_one(&mut self, call: &Playing) -> second::Answer {
+    fn replayed_by_second(&mut self, call: &Playing) -> second::Answer {
         let (regs, meter) = (regs_of(call.kept.regs), meter_of(call.kept.meter));
         let array = self.second.lent_as(call.array);
         match call.k {

@@ -1,19 +1,17 @@
 //! The typed wrapper says what the numbers say.
 
-use tunebriar::{Meter, Part, Read, Record, Refusal, Registers, State, Transaction, Verdict};
+use tunebriar::{Meter, Part, Read, Record, Refusal, Registers, State, Transaction, Verdict, ffi};
 
 use crate::batches::Plan;
-use crate::generate;
+use crate::generate::{self, Sent};
 use crate::rng::Rng;
 use crate::twin::Twin;
 use crate::{Checked, same};
 
 /// Random calls through the wrapper, against the second's numbers.
-pub const PLAN: Plan = Plan {
-    name: "wrapper",
-    batches: 10,
-    run: wrapper,
-};
+pub const PLAN: Plan = Plan::new("wrapper", 10, wrapper);
+
+const PART: Part = Part::Fm25q16;
 
 fn wrapper(twin: &mut Twin, rng: &mut Rng) -> Checked {
     let mut state = State::default();
@@ -24,19 +22,32 @@ fn wrapper(twin: &mut Twin, rng: &mut Rng) -> Checked {
         }
         if rng.one_in(20) {
             state = replay(twin, rng, state)?;
+            #[cfg(feature = "jobs")]
+            job(rng)?;
         }
         if rng.one_in(100) {
-            let regs = generate::registers(rng);
-            state.registers = Registers {
-                status: regs.status as u16,
-                awake: regs.awake == 1,
-            };
+            state.registers = typed(generate::registers(rng));
         }
     }
     Ok(())
 }
 
-/// The same state as the second takes it.
+/// Registers of the wrapper; what does not fit is dropped.
+fn typed(regs: ffi::Regs) -> Registers {
+    Registers {
+        status: regs.status as u16,
+        awake: regs.awake == 1,
+    }
+}
+
+fn untyped(registers: Registers) -> second::Regs {
+    second::Regs {
+        status: u32::from(registers.status),
+        awake: u32::from(registers.awake),
+    }
+}
+
+/// The same state as the second has it.
 fn taken(state: State) -> (second::Regs, second::Meter) {
     let Meter {
         programs,
@@ -50,77 +61,61 @@ fn taken(state: State) -> (second::Regs, second::Meter) {
         writes: register_writes,
         ignored,
     };
-    (registers_taken(state.registers), meter)
-}
-
-fn registers_taken(registers: Registers) -> second::Regs {
-    second::Regs {
-        status: u32::from(registers.status),
-        awake: u32::from(registers.awake),
-    }
+    (untyped(state.registers), meter)
 }
 
 fn told(refusal: Refusal) -> (u32, u64) {
     (refusal.number(), refusal.index())
 }
 
-fn transaction(twin: &mut Twin, rng: &mut Rng, state: State) -> Checked<State> {
-    let (regs, meter) = taken(state);
-    let status = regs.status;
-    let kept = tunebriar::ffi::Regs {
-        status,
-        awake: regs.awake,
-    };
-    let mut sent = generate::sensible(rng, kept, 4_097);
-    if rng.one_in(30) {
-        sent.leftover = 8 + rng.under(248);
-    }
-    let typed = Transaction {
-        bytes: &sent.bytes,
-        leftover: sent.leftover as u8,
-        wp_high: sent.wp != 0,
-    };
-    let short = usize::from(rng.one_in(50)).min(sent.bytes.len());
-    let (mut out, mut mirror) = (
-        vec![1; sent.bytes.len() - short],
-        vec![1; sent.bytes.len() - short],
-    );
-    let (first, second) = twin.arrays();
-    let got = tunebriar::transact(Part::Fm25q16, state, typed, first, &mut out);
-    let expected = second::transact(
-        1,
-        regs,
-        meter,
-        sent.leftover,
-        sent.wp,
-        second,
-        &mut mirror,
-        &sent.bytes,
-    );
-    same("output", &out, &mirror)?;
+/// The state after a call: as answered, or as before where both refuse alike.
+fn after(from: State, got: Result<State, Refusal>, expected: second::Answer) -> Checked<State> {
     match got {
-        Err(refusal) => {
-            same(
-                "refusal",
-                &told(refusal),
-                &(expected.number, expected.index),
-            )?;
+        Ok(state) => {
+            same("state", &taken(state), &(expected.regs, expected.meter))?;
             Ok(state)
         }
-        Ok((verdict, after)) => {
-            same(
-                "verdict",
-                &(verdict.number(), kind(verdict)),
-                &(expected.number, expected.code),
-            )?;
-            same("state", &taken(after), &(expected.regs, expected.meter))?;
-            Ok(after)
+        Err(refusal) => {
+            let number = (expected.number, expected.index);
+            same("refusal", &told(refusal), &number)?;
+            Ok(from)
         }
     }
 }
 
+/// A transaction; now and then too many leftover bits, or no room for the
+/// output.
+fn transaction(twin: &mut Twin, rng: &mut Rng, state: State) -> Checked<State> {
+    let (regs, meter) = taken(state);
+    let (status, awake) = (regs.status, regs.awake);
+    let mut sent = generate::sensible(rng, ffi::Regs { status, awake }, 4_097);
+    if rng.one_in(30) {
+        sent.leftover = 8 + rng.under(248);
+    }
+    let room = sent.bytes.len() - usize::from(rng.one_in(50)).min(sent.bytes.len());
+    let (mut out, mut mirror) = (vec![1; room], vec![1; room]);
+    let (first, second) = twin.arrays();
+    let got = tunebriar::transact(PART, state, lent(&sent), first, &mut out);
+    let (bits, wp) = (sent.leftover, sent.wp);
+    let expected = second::transact(1, regs, meter, bits, wp, second, &mut mirror, &sent.bytes);
+    same("output", &out, &mirror)?;
+    if let Ok((verdict, _)) = got {
+        let numbers = (expected.number, expected.code);
+        same("verdict", &(verdict.number(), code(verdict)), &numbers)?;
+    }
+    after(state, got.map(|(_, state)| state), expected)
+}
+
+fn lent(sent: &Sent) -> Transaction<'_> {
+    Transaction {
+        bytes: &sent.bytes,
+        leftover: sent.leftover as u8,
+        wp_high: sent.wp != 0,
+    }
+}
+
 /// The kind by its code, 0 for none.
-fn kind(verdict: Verdict) -> u32 {
+fn code(verdict: Verdict) -> u32 {
     match verdict {
         Verdict::CarriedOut(kind) => u32::from(kind.code()),
         Verdict::Ignored(_) => 0,
@@ -130,79 +125,49 @@ fn kind(verdict: Verdict) -> u32 {
 type Registered = fn(Part, Registers) -> Result<Registers, Refusal>;
 type Numbered = fn(u32, second::Regs) -> second::Event;
 
+/// An event on these registers, and on any.
 fn events(rng: &mut Rng, from: Registers) -> Checked<Registers> {
     let pairs: [(Registered, Numbered); 2] = [
         (tunebriar::finish, second::finish),
         (tunebriar::power_cycle, second::power_cycle),
     ];
-    let wild = generate::wild_registers(rng);
-    let wild = Registers {
-        status: wild.status as u16,
-        awake: wild.awake == 1,
-    };
     let (first, second) = pairs[usize::from(rng.one_in(6))];
     let mut after = from;
-    for registers in [wild, from] {
-        let expected = second(1, registers_taken(registers));
-        match first(Part::Fm25q16, registers) {
-            Err(refusal) => same("refusal", &told(refusal), &(expected.number, 0))?,
-            Ok(got) => {
-                same(
-                    "event",
-                    &(0, registers_taken(got)),
-                    &(expected.number, expected.regs),
-                )?;
-                after = got;
-            }
-        }
+    for registers in [typed(generate::wild_registers(rng)), from] {
+        let expected = second(1, untyped(registers));
+        let got = first(PART, registers);
+        let number = got.err().map_or(0, Refusal::number);
+        after = got.unwrap_or(registers);
+        let numbers = (expected.number, expected.regs);
+        same("event", &(number, untyped(after)), &numbers)?;
     }
     Ok(after)
 }
 
+/// The first k records of a tape, and if they are served the whole of it.
 fn replay(twin: &mut Twin, rng: &mut Rng, state: State) -> Checked<State> {
-    let records = rng.below(6);
+    let (records, k) = (rng.below(6), rng.below(8) as u64);
     let mut tape = generate::tape(rng, records);
     if rng.one_in(3) {
         generate::damage(rng, &mut tape);
     }
     (0..records as u64 + 2).try_for_each(|place| read(&tape, place))?;
-    let k = rng.below(8) as u64;
-    let (regs, meter) = taken(state);
     let (first, second) = twin.arrays();
-    let got = tunebriar::replay_first(Part::Fm25q16, state, first, &tape, k)
-        .and_then(|after| tunebriar::replay(Part::Fm25q16, after, first, &tape));
-    let mut expected = second::replay_first(1, regs, meter, second, &tape, k);
-    if expected.number == 0 {
-        expected = second::replay(1, expected.regs, expected.meter, second, &tape);
-    }
-    match got {
-        Err(refusal) => {
-            same(
-                "refusal",
-                &told(refusal),
-                &(expected.number, expected.index),
-            )?;
-            Ok(state)
-        }
-        Ok(after) => {
-            same("replay", &taken(after), &(expected.regs, expected.meter))?;
-            Ok(after)
-        }
-    }
+    let (regs, meter) = taken(state);
+    let got = tunebriar::replay_first(PART, state, first, &tape, k);
+    let expected = second::replay_first(1, regs, meter, second, &tape, k);
+    let between = after(state, got, expected)?;
+    let (regs, meter) = taken(between);
+    let got = tunebriar::replay(PART, between, first, &tape);
+    let expected = second::replay(1, regs, meter, second, &tape);
+    after(between, got, expected)
 }
 
 fn read(tape: &[u8], place: u64) -> Checked {
     let expected = second::read(tape, place);
     let (kind, number) = match tunebriar::read(tape, place) {
         Read::Record(Record::Transaction(sent)) => {
-            let bytes = &tape[expected.start as usize..][..expected.length as usize];
-            same("bytes", &sent.bytes, &bytes)?;
-            let bits = (u32::from(sent.leftover), u32::from(sent.wp_high));
-            same(
-                "leftover bits and /WP",
-                &bits,
-                &(expected.leftover, expected.wp),
-            )?;
+            transaction_read(sent, tape, &expected)?;
             (0, 0)
         }
         Read::Record(Record::Finish) => (1, 0),
@@ -210,9 +175,33 @@ fn read(tape: &[u8], place: u64) -> Checked {
         Read::End => (3, 0),
         Read::Fault(refusal) => (4, refusal.number()),
     };
-    same(
-        "kind and number",
-        &(kind, number),
-        &(expected.kind, expected.number),
-    )
+    let numbers = (expected.kind, expected.number);
+    same("kind and number", &(kind, number), &numbers)
+}
+
+fn transaction_read(sent: Transaction, tape: &[u8], expected: &second::Record) -> Checked {
+    let bytes = &tape[expected.start as usize..][..expected.length as usize];
+    same("bytes", &sent.bytes, &bytes)?;
+    let bits = (u32::from(sent.leftover), u32::from(sent.wp_high));
+    let numbers = (expected.leftover, expected.wp);
+    same("leftover bits and /WP", &bits, &numbers)
+}
+
+/// A quote, and a translation into a tape of just the length quoted.
+#[cfg(feature = "jobs")]
+fn job(rng: &mut Rng) -> Checked {
+    let mut job = crate::job_batches::any_job(rng);
+    job.setting %= 256;
+    let (setting, steps, payload) = (job.setting as u8, &job.steps, &job.payload);
+    let expected = second::quote(1, job.setting, steps, payload);
+    let got = tunebriar::quote(PART, setting, steps, payload);
+    let number = got.err().map_or((0, 0), told);
+    same("quote", &number, &(expected.number, expected.index))?;
+    let bill = got.unwrap_or_default();
+    let rises = [bill.programs, bill.erases, bill.register_writes];
+    let numbers = [expected.programs, expected.erases, expected.writes];
+    same("rises", &(rises, bill.tape), &(numbers, expected.length))?;
+    let mut tape = vec![1; bill.tape as usize];
+    let written = tunebriar::translate(PART, setting, steps, payload, &mut tape);
+    same("translation", &written, &got.map(|bill| bill.tape))
 }
