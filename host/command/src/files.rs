@@ -184,19 +184,23 @@ impl Staged {
             let Err(error) = file.exchange() else {
                 continue;
             };
+            let _ = fs::remove_file(&file.old);
             self.files[..done].iter().for_each(Beside::restore);
             return Err(unwritable(&file.path, &error));
+        }
+        for file in &self.files {
+            let _ = fs::remove_file(&file.old);
         }
         Ok(())
     }
 }
 
 impl Drop for Staged {
-    /// Nothing stays beside the files, whatever happened.
+    /// Nothing new stays beside the files, whatever happened. An old file that
+    /// could not be put back does: it may be the only one.
     fn drop(&mut self) {
         for file in &self.files {
             let _ = fs::remove_file(&file.fresh);
-            let _ = fs::remove_file(&file.old);
         }
     }
 }

@@ -3,7 +3,9 @@
 use crate::args::{Args, Shape};
 use crate::error::Error;
 use crate::files::{self, Staged};
-use crate::job_text::{self, Job, RECORD, absent_or_forced};
+use crate::job_back;
+use crate::job_text::{self, Job, RECORD};
+use crate::lines::absent_or_forced;
 use crate::numbers::grouped;
 use std::fmt::Write;
 use std::path::Path;
@@ -64,7 +66,7 @@ fn back(args: &Args, said: &mut String) -> Result<(), Error> {
         records: files::read(path)?,
         payload: files::read(payload)?,
     };
-    let written = job_text::write(path, &job, &called(text, payload))?;
+    let written = job_back::text(path, &job, &called(text, payload))?;
     let mut staged = Staged::sparing(&[path, payload]);
     staged.lay(text, written.as_bytes())?;
     staged.commit()?;

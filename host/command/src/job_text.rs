@@ -1,12 +1,11 @@
-//! The text of a job: lines into records and payload, and back.
+//! A job from its text: lines into records and payload.
 
 use crate::areas;
-use crate::args::Args;
 use crate::chip::PART;
 use crate::error::Error;
 use crate::files;
-use crate::numbers::{hex, number, spaced};
-use std::fmt::Write;
+use crate::lines::lines;
+use crate::numbers::{hex, number};
 use std::path::{Path, PathBuf};
 use tunebriar::{Refusal, Step, Unit, quote};
 
@@ -23,63 +22,6 @@ pub struct Job {
 pub const RECORD: usize = 16;
 /// The longest lay of one record.
 const LONGEST_LAY: u64 = 4_096;
-
-/// A line's number and its words.
-pub type Line = (usize, Vec<String>);
-
-/// The lines that say something, split into words. `#` begins a comment, a
-/// last `\` joins the next line, and quotes keep a name with blanks together.
-///
-/// # Errors
-///
-/// Where a quote is left open.
-pub fn lines(path: &Path, text: &str) -> Result<Vec<Line>, Error> {
-    let mut lines: Vec<Line> = Vec::new();
-    let mut open = false;
-    for (number, content) in (1..).zip(text.lines()) {
-        let mut words = split(content).map_err(|words| Error::line(path, number, words))?;
-        let goes_on = words.last().is_some_and(|last| last == "\\");
-        if goes_on {
-            words.pop();
-        }
-        match lines.last_mut() {
-            Some((_, before)) if open => before.append(&mut words),
-            _ if words.is_empty() => {}
-            _ => lines.push((number, words)),
-        }
-        open = goes_on && !lines.is_empty();
-    }
-    Ok(lines)
-}
-
-fn split(content: &str) -> Result<Vec<String>, String> {
-    let mut words = Vec::new();
-    let mut rest = content.trim_start();
-    while !rest.is_empty() && !rest.starts_with('#') {
-        let (word, after) = match rest.strip_prefix('"') {
-            Some(quoted) => quoted.split_once('"').ok_or("a quote is left open")?,
-            None => {
-                let end = rest.find(|c: char| c.is_whitespace() || c == '#');
-                rest.split_at(end.unwrap_or(rest.len()))
-            }
-        };
-        words.push(word.to_string());
-        rest = after.trim_start();
-    }
-    Ok(words)
-}
-
-/// A text that someone wrote by hand is not replaced unasked.
-///
-/// # Errors
-///
-/// Where the file is there and `--force` is not given.
-pub fn absent_or_forced(args: &Args, path: &Path) -> Result<(), Error> {
-    match path.exists() && !args.flag("force") {
-        true => Err(Error::file(path, "is there already; --force replaces it")),
-        false => Ok(()),
-    }
-}
 
 /// The job that a text says. Files are looked for in the text's own folder.
 ///
@@ -107,7 +49,7 @@ pub fn read(path: &Path) -> Result<Job, Error> {
 
 /// The library's word on one record alone, where nothing is protected: it
 /// refuses it for its form, its span or its payload.
-fn checked(record: &[u8], payload: &[u8]) -> Result<(), Refusal> {
+pub(crate) fn checked(record: &[u8], payload: &[u8]) -> Result<(), Refusal> {
     match quote(PART, 0, record, payload) {
         // The whole payload is judged once, when all of it is there.
         Err(refusal) if refusal.number() != 20 => Err(refusal),
@@ -116,7 +58,7 @@ fn checked(record: &[u8], payload: &[u8]) -> Result<(), Refusal> {
 }
 
 /// Refusal 20, if the job is too long or its payload too large.
-fn whole(job: &Job) -> Result<(), Refusal> {
+pub(crate) fn whole(job: &Job) -> Result<(), Refusal> {
     match quote(PART, 0, &job.records, &job.payload) {
         Err(refusal) if refusal.number() == 20 => Err(refusal),
         _ => Ok(()),
@@ -225,112 +167,4 @@ fn lay(address: u64, length: usize, offset: usize) -> Result<Step, String> {
         length: narrow(length as u64)?,
         offset: narrow(offset as u64)?,
     })
-}
-
-/// The text of a job; `payload` is the name by which the text can call its
-/// payload, where the lays are not simply one after the other in it.
-///
-/// # Errors
-///
-/// Refusals 20 and 22 to 24, with the record.
-pub fn write(path: &Path, job: &Job, payload: &str) -> Result<String, Error> {
-    whole(job).map_err(|refusal| Error::refused(path, refusal))?;
-    let mut steps = Vec::new();
-    for (place, record) in job.records.chunks(RECORD).enumerate() {
-        checked(record, &job.payload).map_err(|refusal| {
-            let place = format!("record {place}");
-            Error::refused_at(path, place, refusal)
-        })?;
-        steps.push(decoded(record));
-    }
-    let inside = in_order(&steps, job.payload.len());
-    let mut text = match inside {
-        true => String::new(),
-        false => format!("payload from \"{payload}\"\n"),
-    };
-    for step in steps {
-        text.push_str(&said(step, inside.then_some(&job.payload)));
-    }
-    Ok(text)
-}
-
-/// A record that the library has found good.
-fn decoded(record: &[u8]) -> Step {
-    let word = |at: usize| u32::from_be_bytes(std::array::from_fn(|place| record[at + place]));
-    let units = [Unit::Sector, Unit::HalfBlock, Unit::Block, Unit::All];
-    match record[0] {
-        1 => Step::Erase {
-            unit: units[usize::from(record[1] & 3)],
-            address: word(4),
-        },
-        2 => Step::Lay {
-            address: word(4),
-            length: word(8),
-            offset: word(12),
-        },
-        _ => Step::Guard { setting: record[1] },
-    }
-}
-
-/// Whether the lays take the whole payload, one after the other.
-fn in_order(steps: &[Step], payload: usize) -> bool {
-    let mut next = 0;
-    for step in steps {
-        if let Step::Lay { length, offset, .. } = *step {
-            if u64::from(offset) != next {
-                return false;
-            }
-            next += u64::from(length);
-        }
-    }
-    next == payload as u64
-}
-
-fn said(step: Step, payload: Option<&Vec<u8>>) -> String {
-    match (step, payload) {
-        (
-            Step::Erase {
-                unit: Unit::All, ..
-            },
-            _,
-        ) => "erase all\n".to_string(),
-        (Step::Erase { unit, address }, _) => {
-            let size = ["4k", "32k", "64k", ""][unit as usize];
-            format!("erase {size} 0x{address:06x}\n")
-        }
-        (Step::Guard { setting }, _) => format!("guard {setting} # {}\n", areas::name(setting)),
-        (
-            Step::Lay {
-                address,
-                length,
-                offset,
-            },
-            Some(payload),
-        ) => {
-            let span = offset as usize..(offset + length) as usize;
-            hex_lay(address, &payload[span])
-        }
-        (
-            Step::Lay {
-                address,
-                length,
-                offset,
-            },
-            None,
-        ) => format!("lay 0x{address:06x} span 0x{offset:x} {length}\n"),
-    }
-}
-
-/// Sixteen bytes a line.
-fn hex_lay(address: u32, bytes: &[u8]) -> String {
-    let mut text = format!("lay 0x{address:06x} hex");
-    if bytes.len() <= 16 {
-        let _ = writeln!(text, " {}", spaced(bytes));
-        return text;
-    }
-    for line in bytes.chunks(16) {
-        let _ = write!(text, " \\\n  {}", spaced(line));
-    }
-    text.push('\n');
-    text
 }

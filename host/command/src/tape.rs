@@ -3,7 +3,7 @@
 use crate::args::{Args, Shape};
 use crate::error::Error;
 use crate::files::{self, Staged};
-use crate::job_text::{absent_or_forced, lines};
+use crate::lines::{absent_or_forced, lines};
 use crate::numbers::{grouped, hex, number, spaced};
 use std::fmt::Write;
 use std::path::Path;
@@ -41,24 +41,23 @@ const MOST: usize = 260;
 /// Refusals 30 and 31; files.
 pub fn run(args: &Args, said: &mut String) -> Result<(), Error> {
     let (text, tape) = (args.path(0), args.path(1));
-    let (source, path, bytes, records) = if args.flag("back") {
-        absent_or_forced(args, text)?;
-        let tape_bytes = files::read(tape)?;
-        (
-            tape,
-            text,
-            back(tape, &tape_bytes)?.into_bytes(),
-            tape_bytes.len() / RECORD,
-        )
-    } else {
-        let bytes = forth(text)?;
-        let records = bytes.len() / RECORD;
-        (text, tape, bytes, records)
+    let (from, to, bytes, records) = match args.flag("back") {
+        true => {
+            absent_or_forced(args, text)?;
+            let bytes = files::read(tape)?;
+            let written = back(tape, &bytes)?.into_bytes();
+            (tape, text, written, bytes.len() / RECORD)
+        }
+        false => {
+            let bytes = forth(text)?;
+            let records = bytes.len() / RECORD;
+            (text, tape, bytes, records)
+        }
     };
-    let mut staged = Staged::sparing(&[source]);
-    staged.lay(path, &bytes)?;
+    let mut staged = Staged::sparing(&[from]);
+    staged.lay(to, &bytes)?;
     staged.commit()?;
-    let _ = writeln!(said, "{}: {} records", path.display(), grouped(records));
+    let _ = writeln!(said, "{}: {} records", to.display(), grouped(records));
     Ok(())
 }
 

@@ -109,7 +109,8 @@ fn apart(path: &Path, departments: &[Department]) -> Result<(), Error> {
                 same.0 != same.1 || (same.0 && *owner != department.name)
             });
             if let Some((_, _, owner)) = clash {
-                let words = format!("its array or state is in another line, of {owner}");
+                let words =
+                    format!("its array or its state is that of another chip, in a line of {owner}");
                 return Err(Error::line(path, row.line, words));
             }
             let chip = (array, state, department.name.as_str());

@@ -180,15 +180,15 @@ fn ledgers_that_cannot_be_understood() {
         ),
         (
             format!("{head}{line}b,./chip.array,chip.state,a.tape\n"),
-            "line 3: its array or state is in another line, of a",
+            "line 3: its array or its state is that of another chip, in a line of a",
         ),
         (
             format!("{head}{line}a,chip.array,other.state,a.tape\n"),
-            "line 3: its array or state",
+            "line 3: its array or its state",
         ),
         (
             format!("{head}{line}a,other.array,chip.state,a.tape\n"),
-            "line 3: its array or state",
+            "line 3: its array or its state",
         ),
     ];
     for (ledger, says) in cases {
