@@ -21,6 +21,8 @@ Each line of TEXT is a step:
   lay 0x100 hex 11 22 33        bytes as they stand
   lay 0x1fe00 from firmware.bin the whole file, cut into records of 4,096
   lay 0x200 from a.bin at 16 for 32
+  payload from a.payload        before all lays: a payload to take spans of
+  lay 0x300 span 16 32          its 32 bytes from place 16
   guard 17                      or by area: none, all, 'top 64k', 'bottom 4k'
 Blank lines and what follows a # say nothing; a line that ends in \\ goes on; a
 name with blanks stands in quotes. Files are looked for in TEXT's folder.

@@ -9,6 +9,7 @@ pub mod args;
 pub mod bill;
 pub mod chip;
 pub mod error;
+pub mod fields;
 pub mod files;
 pub mod job;
 pub mod job_back;

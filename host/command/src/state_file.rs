@@ -12,7 +12,7 @@
 //! ```
 
 use crate::error::Error;
-use crate::files;
+use crate::fields::Fields;
 use crate::numbers::number;
 use std::path::Path;
 use tunebriar::{Meter, Registers, State};
@@ -33,65 +33,41 @@ const KEYS: [&str; 7] = [
 ///
 /// # Errors
 ///
-/// Where the file cannot be read, or a line is missing, unknown or doubled.
+/// Where the file cannot be read or understood.
 pub fn read(path: &Path) -> Result<State, Error> {
-    let text = files::text(path)?;
-    let mut values = [None; KEYS.len()];
-    for (line, content) in (1..).zip(text.lines()) {
-        let content = content.split('#').next().unwrap_or_default().trim();
-        if !content.is_empty() {
-            put(&mut values, content, line).map_err(|words| Error::line(path, line, words))?;
-        }
-    }
-    state(path, &values)
-}
-
-type Value<'a> = Option<(usize, &'a str)>;
-
-fn put<'a>(values: &mut [Value<'a>], content: &'a str, line: usize) -> Result<(), String> {
-    let Some((key, value)) = content.split_once('=') else {
-        return Err(format!("'{content}' is not KEY = VALUE"));
-    };
-    let (key, value) = (key.trim(), value.trim());
-    let Some(place) = KEYS.iter().position(|&known| known == key) else {
-        return Err(format!("there is no '{key}' in a state"));
-    };
-    match values[place].replace((line, value)) {
-        Some((before, _)) => Err(format!("'{key}' stands in line {before} already")),
-        None => Ok(()),
-    }
-}
-
-fn state(path: &Path, values: &[Value; KEYS.len()]) -> Result<State, Error> {
-    let value = |place: usize| {
-        let missing = || Error::file(path, format!("'{}' is missing", KEYS[place]));
-        values[place].ok_or_else(missing)
-    };
-    let count = |place| {
-        let (line, word) = value(place)?;
-        number(word).map_err(|words| Error::line(path, line, words))
-    };
-    let (line, chip) = value(0)?;
-    if chip != CHIP {
-        let words = format!("the chip '{chip}' is not known; there is {CHIP}");
-        return Err(Error::line(path, line, words));
-    }
-    let status = u16::try_from(count(1)?);
-    let status = status.map_err(|_| Error::file(path, "the status has more than 16 bits"))?;
-    let awake = match value(2)? {
-        (_, "yes") => true,
-        (_, "no") => false,
-        (line, _) => return Err(Error::line(path, line, "awake is yes or no")),
-    };
+    let fields = Fields::read(path, &KEYS)?;
+    fields.get("chip", known)?;
     Ok(State {
-        registers: Registers { status, awake },
+        registers: Registers {
+            status: fields.get("status", status)?,
+            awake: fields.get("awake", awake)?,
+        },
         meter: Meter {
-            programs: count(3)?,
-            erases: count(4)?,
-            register_writes: count(5)?,
-            ignored: count(6)?,
+            programs: fields.get("programs", number)?,
+            erases: fields.get("erases", number)?,
+            register_writes: fields.get("register-writes", number)?,
+            ignored: fields.get("ignored", number)?,
         },
     })
+}
+
+fn known(word: &str) -> Result<(), String> {
+    match word {
+        CHIP => Ok(()),
+        _ => Err(format!("the chip '{word}' is not known; there is {CHIP}")),
+    }
+}
+
+fn status(word: &str) -> Result<u16, String> {
+    u16::try_from(number(word)?).map_err(|_| format!("a status of 16 bits is not {word}"))
+}
+
+fn awake(word: &str) -> Result<bool, String> {
+    match word {
+        "yes" => Ok(true),
+        "no" => Ok(false),
+        _ => Err(format!("awake is yes or no, not '{word}'")),
+    }
 }
 
 /// A state as text.

@@ -1,7 +1,7 @@
 //! Prices and amounts, exact: whole millionths, never a fraction of one.
 
 use crate::error::Error;
-use crate::files;
+use crate::fields::Fields;
 use std::path::Path;
 
 /// What is billed of a tape, a department or a job.
@@ -34,7 +34,7 @@ pub struct Prices {
     each: [u64; 4],
 }
 
-const KEYS: [&str; 4] = ["program", "erase", "register-write", "ignored"];
+const KEYS: [&str; 5] = ["currency", "program", "erase", "register-write", "ignored"];
 const DECIMALS: usize = 6;
 const ONE: u128 = 1_000_000;
 
@@ -44,26 +44,19 @@ impl Prices {
     ///
     /// # Errors
     ///
-    /// Where it cannot be read, or a line is missing, unknown or doubled.
+    /// Where it cannot be read or understood.
     pub fn read(path: &Path) -> Result<Prices, Error> {
-        let text = files::text(path)?;
-        let (mut currency, mut each) = (None, [None; 4]);
-        for (line, content) in (1..).zip(text.lines()) {
-            let content = content.split('#').next().unwrap_or_default().trim();
-            if !content.is_empty() {
-                put(content, &mut currency, &mut each)
-                    .map_err(|words| Error::line(path, line, words))?;
-            }
-        }
-        let missing = |key: &str| Error::file(path, format!("'{key}' is missing"));
-        let mut prices = Prices {
-            currency: currency.ok_or_else(|| missing("currency"))?,
-            each: [0; 4],
-        };
-        for (place, key) in KEYS.iter().enumerate() {
-            prices.each[place] = each[place].ok_or_else(|| missing(key))?;
-        }
-        Ok(prices)
+        let fields = Fields::read(path, &KEYS)?;
+        let price = |key| fields.get(key, millionths);
+        Ok(Prices {
+            currency: fields.get("currency", |word| Ok(word.to_string()))?,
+            each: [
+                price("program")?,
+                price("erase")?,
+                price("register-write")?,
+                price("ignored")?,
+            ],
+        })
     }
 
     /// What the counts cost, in millionths. A tape that could be held anywhere
@@ -87,29 +80,6 @@ impl Prices {
     #[must_use]
     pub fn shown(&self, counts: Counts) -> String {
         format!("{} {}", decimal(self.amount(counts)), self.currency)
-    }
-}
-
-fn put(
-    content: &str,
-    currency: &mut Option<String>,
-    each: &mut [Option<u64>; 4],
-) -> Result<(), String> {
-    let Some((key, value)) = content.split_once('=') else {
-        return Err(format!("'{content}' is not KEY = VALUE"));
-    };
-    let (key, value) = (key.trim(), value.trim());
-    let doubled = if key == "currency" {
-        currency.replace(value.to_string()).is_some()
-    } else {
-        let Some(place) = KEYS.iter().position(|&known| known == key) else {
-            return Err(format!("there is no price of '{key}'"));
-        };
-        each[place].replace(millionths(value)?).is_some()
-    };
-    match doubled {
-        true => Err(format!("'{key}' is there twice")),
-        false => Ok(()),
     }
 }
 

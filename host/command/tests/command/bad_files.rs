@@ -54,7 +54,11 @@ fn states_that_cannot_be_understood() {
             "awake = yes\nawake = yes",
             "line 5: 'awake' stands in line 4 already",
         ),
-        ("0x0000", "0x10000", "the status has more than 16 bits"),
+        (
+            "0x0000",
+            "0x10000",
+            "line 3: a status of 16 bits is not 0x10000",
+        ),
         ("0x0000", "low", "line 3: 'low' is not a number"),
         (
             "erases = 0",
@@ -65,7 +69,7 @@ fn states_that_cannot_be_understood() {
         (
             "erases = 0",
             "erasers = 0",
-            "line 6: there is no 'erasers' in a state",
+            "line 6: 'erasers' is none of chip, status, awake",
         ),
         (
             "erases = 0",
@@ -234,7 +238,7 @@ fn prices_that_cannot_be_understood() {
         (
             "erase = 1.50",
             "erase = 1\nerase = 2",
-            "line 4: 'erase' is there twice",
+            "line 4: 'erase' stands in line 3 already",
         ),
         (
             "erase = 1.50",
@@ -244,7 +248,7 @@ fn prices_that_cannot_be_understood() {
         (
             "erase = 1.50",
             "read = 1",
-            "line 3: there is no price of 'read'",
+            "line 3: 'read' is none of currency, program",
         ),
     ];
     for (from, to, says) in cases {
