@@ -28,7 +28,7 @@ fn main() -> ExitCode {
     let mut suite = Suite::new(options);
     all(&mut suite);
     println!("{}", suite.tally());
-    if suite.failed() == 0 {
+    if suite.good() {
         ExitCode::SUCCESS
     } else {
         ExitCode::FAILURE

@@ -53,10 +53,10 @@ impl Suite {
         }
     }
 
-    /// How many have failed.
+    /// Whether some check was made and none has failed.
     #[must_use]
-    pub fn failed(&self) -> u64 {
-        self.failed
+    pub fn good(&self) -> bool {
+        self.passed > 0 && self.failed == 0
     }
 
     /// The last line.

@@ -16,7 +16,7 @@ use tapes::Tape;
 use tunebriar::ffi;
 
 /// Timed runs of each; the figure is their median.
-const RUNS: usize = 31;
+const RUNS: usize = 101;
 
 /// What the array holds before each run.
 const GROUNDS: [(&str, u8); 2] = [("erased (all FF)", 0xFF), ("full (all 00)", 0x00)];
