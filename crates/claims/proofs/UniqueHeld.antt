@@ -43,9 +43,6 @@ place-unique r = same (r .place)
 pub reader-read-unique : (r : Reader) (t u : AtPlace) (r₁ r₂ : Reader) → (t ≡ found r) × (r₁ ≡ after r) → (u ≡ found r) × (r₂ ≡ after r) → (t ≡ u) × (r₁ ≡ r₂)
 reader-read-unique r = both-same (found r) (after r)
 
-pub first-of-unique : (tape : List ℕ) (t u : AtPlace) → t ≡ readAt tape 0 → u ≡ readAt tape 0 → t ≡ u
-first-of-unique tape = same (readAt tape 0)
-
 pub read-from-unique : (tape : List ℕ) (place : ℕ) (t u : AtPlace) → t ≡ readAt tape place → u ≡ readAt tape place → t ≡ u
 read-from-unique tape place = same (readAt tape place)
 

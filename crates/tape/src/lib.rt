@@ -252,15 +252,7 @@ pub fn read<'s, 'a>(r: &'s mut Reader<'a>) -> AtPlace
     got.found
 }
 
-// The first answer of a reader of the tape. Its callers need know nothing of readers.
-pub fn first_of(tape: &[u8]) -> AtPlace
-    ensures { λ t. ⌜ t ≡ readAt (now (tape .entry)) 0 ⌝ }
-{
-    let mut r = new(tape);
-    read(&mut r)
-}
-
-// The answer of a reader of the tape that has come to a place. Its callers too need know nothing of readers.
+// The answer of a reader of the tape that has come to a place. Its callers need know nothing of readers.
 pub fn read_from(tape: &[u8], place: usize) -> AtPlace
     ensures { λ t. ⌜ t ≡ readAt (now (tape .entry)) place ⌝ }
 {
