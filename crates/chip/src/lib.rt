@@ -70,7 +70,7 @@ fn regs_written(part: u32, r: Regs, b: &[u8], w: Write) -> Regs
     }
 }
 
-// ---- what a command does that is carried out: the step that knows no meter
+// ---- what a command does that is carried out: the two steps that know no meter, and then the turn that counts
 
 // The registers after a command.
 fn regs_done(part: u32, r: Regs, b: &[u8], k: Kind) -> Regs

@@ -1,4 +1,4 @@
-// The meter: one more of what was carried out, or of what was ignored.
+// The meter: one more program, erase or register write that was carried out, or one more that was ignored.
 use rules::Kind;
 use rules::Meter;
 use rules::Metered;
@@ -31,7 +31,7 @@ fn count(m: Meter, w: Write) -> Meter
     t
 }
 
-// What was carried out counts by its kind.
+// Of what was carried out the writes count, each in its own count; nothing else does.
 pub fn meter_step(m: Meter, k: Kind) -> Meter
     requires { ⌜ Room m 1 ⌝ }
     ensures { λ t. ⌜ t ≡ ofWrite k m (counted m) ⌝ }

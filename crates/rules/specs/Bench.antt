@@ -49,7 +49,7 @@ abbrev pub carried : ℕ → List ℕ → Kept → Meter → List Fact → Seen
 carried code out regs m array =
     record { served = true; number = 0; code = code; out = out; regs = regs; meter = m; array = array; finishes = [] }
 
--- ignored: the number, output, registers
+-- ignored: the number, output, registers, array
 abbrev pub ignoredAs : ℕ → List ℕ → Kept → List Fact → Seen
 ignoredAs number out regs array =
     record { served = true; number = number; code = 0; out = out; regs = regs; meter = counts 0 0 0 1; array = array; finishes = [] }

@@ -74,7 +74,7 @@ some Nothing = false
 unfoldable pub shielded : Part → ℕ → Step → Bool
 shielded p s w = some (firstProtected p s (stepStart w) (stepReach p w))
 
--- 22 to 25 for one step, 0 for none
+-- 23 to 25 for one step, 0 for none
 unfoldable pub stepNumber : Part → ℕ → ℕ → Step → ℕ
 stepNumber p s payloadLength w =
     if outside p w then 23 else

@@ -20,7 +20,7 @@ listingLimit = 65472
 abbrev pub digit : ℕ → ℕ
 digit n = 0x30 + n % 10
 
--- "index and length are decimal": three digits and four
+-- "index and length are decimal": four digits and three
 abbrev pub digits3 : ℕ → List ℕ
 digits3 n = digit (n / 100) ∷ digit (n / 10) ∷ digit n ∷ []
 

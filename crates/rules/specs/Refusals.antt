@@ -1,4 +1,4 @@
--- When we turn a caller away: the checks that several entries share. Document 01's table, and the order beneath it.
+-- When we turn a caller away: the checks of a transaction, and those that the two events share. Document 01's table, and the order beneath it.
 -- A refusal of number 0 is none.
 use Prim.Native.Nat.{ℕ}
 use mathlib.Core.Bool.{Bool, not}

@@ -9,7 +9,7 @@ pub struct Kept {
     pub awake: u32,
 }
 
-// The meter: what was carried out, by kind, and what was ignored.
+// The meter: programs, erases and register writes that were carried out, and what was ignored.
 #[repr(C)]
 pub struct Meter {
     pub programs: u32,
@@ -73,7 +73,7 @@ pub enum Command {
     Unknown,
 }
 
-// Why a command was ignored: document 01's number, 10 to 16. One place to grow.
+// Why a command was ignored: document 01's number; the verdict gives 10 to 16. One place to grow.
 pub struct Reason {
     pub number: u8,
 }
