@@ -6,7 +6,7 @@ use crate::error::Error;
 use crate::files;
 use crate::numbers::{grouped, number};
 use crate::play::{Asked, Tally, play};
-use crate::words::{self, REASONS};
+use crate::words;
 use std::fmt::Write;
 use tunebriar::{Kind, Meter, RECORD, Reason};
 
@@ -78,7 +78,7 @@ fn report(tally: &Tally) -> String {
         let _ = writeln!(text, "{:>9}  {code:02X} {kind}", grouped(count));
     }
     let _ = writeln!(text, "ignored {}", grouped(tally.all_ignored()));
-    for reason in REASONS {
+    for reason in Reason::ALL {
         ignored(&mut text, tally, reason);
     }
     let events = (grouped(tally.finishes), grouped(tally.power_cycles));

@@ -4,17 +4,6 @@ use crate::areas;
 use crate::numbers::grouped;
 use tunebriar::{Kind, Meter, Reason, Registers, Verdict};
 
-/// Every reason, in the order of the numbers.
-pub const REASONS: [Reason; 7] = [
-    Reason::Busy,
-    Reason::Asleep,
-    Reason::Unknown,
-    Reason::WrongSize,
-    Reason::WriteDisabled,
-    Reason::Locked,
-    Reason::Protected,
-];
-
 /// Why a transaction was ignored.
 #[must_use]
 pub fn reason(reason: Reason) -> &'static str {

@@ -54,7 +54,8 @@ pub enum Reason {
 }
 
 impl Reason {
-    const ALL: [Reason; 7] = [
+    /// Every reason, in the order of the numbers.
+    pub const ALL: [Reason; 7] = [
         Reason::Busy,
         Reason::Asleep,
         Reason::Unknown,

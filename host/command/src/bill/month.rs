@@ -9,12 +9,11 @@ use crate::files::{self, Staged};
 use crate::play::{Asked, Tally, play};
 use crate::replay::rise;
 use crate::state_file;
-use crate::words::REASONS;
 use std::path::PathBuf;
 use std::sync::Mutex;
 use std::sync::atomic::{AtomicUsize, Ordering};
 use std::thread;
-use tunebriar::Refusal;
+use tunebriar::{Reason, Refusal};
 
 /// What a department's month came to.
 #[derive(Debug, Default)]
@@ -54,7 +53,7 @@ impl Account {
         self.counts += counts;
         self.programs_ignored += tally.ignored_of(Asked::Program);
         self.erases_ignored += tally.ignored_of(Asked::Erase);
-        for (count, reason) in self.reasons.iter_mut().zip(REASONS) {
+        for (count, reason) in self.reasons.iter_mut().zip(Reason::ALL) {
             *count += tally.ignored_for(reason);
         }
     }

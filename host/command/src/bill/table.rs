@@ -5,9 +5,9 @@ use super::month::Account;
 use super::prices::{Counts, Prices, decimal};
 use crate::error;
 use crate::numbers::grouped;
-use crate::words::{self, REASONS};
+use crate::words;
 use std::fmt::Write;
-use tunebriar::Refusal;
+use tunebriar::{Reason, Refusal};
 
 /// Characters of the longest bar.
 const LONGEST: u64 = 40;
@@ -145,7 +145,7 @@ pub fn csv(accounts: &[Account], prices: &Prices) -> String {
         "department,tapes,programs,erases,register_writes,ignored,amount,currency,\
          programs_ignored,erases_ignored,others_ignored",
     );
-    for reason in REASONS {
+    for reason in Reason::ALL {
         let _ = write!(text, ",ignored_{}", reason as u32);
     }
     text.push_str(",tapes_refused,refusals\n");
@@ -192,7 +192,7 @@ fn csv_line(account: &Account, prices: &Prices) -> String {
 pub fn reasons(accounts: &[Account]) -> String {
     let mut text = String::new();
     for account in accounts {
-        let told = account.reasons.iter().zip(REASONS);
+        let told = account.reasons.iter().zip(Reason::ALL);
         for (count, reason) in told.filter(|(count, _)| **count > 0) {
             let (number, why) = (reason as u32, words::reason(reason));
             let (name, count) = (&account.department, grouped(count));
