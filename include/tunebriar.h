@@ -1,18 +1,20 @@
 /*
  * Tunebriar: a proved emulator and job translator for the FM25Q16 serial flash
  * chip, as document 01 has it. `rt staticlib tunebriar` builds libtunebriar.a,
- * which exports these eight functions and nothing else.
+ * which exports these nine functions and nothing else.
  *
  * Pointers. What follows no contract can say, so the caller must see to it:
- *   - each pointer is valid for the length handed in after it;
+ *   - each pointer to bytes is valid for the length handed in after it;
  *   - a lent range that is written (`array`, `out`, and `tape` of tb_translate)
  *     overlaps no other range of the same call;
- *   - a null pointer is allowed where the length is 0.
+ *   - a null pointer to bytes is allowed where the length is 0;
+ *   - `meter` of tb_count, the one struct that is lent, points to a valid,
+ *     aligned tb_meter that overlaps nothing, and is never null.
  * No pointer is kept after the call, and nothing past a length is touched.
  *
  * Numbers. Any number may be handed to any function. Every number is judged at
  * its full width before it is narrowed: part 257 is refusal 1, leftover 256 is
- * refusal 5, setting 256 is refusal 21.
+ * refusal 5, setting 256 is refusal 21, op 258 is not 02.
  *
  * Refusals. A refusal changes nothing that was lent.
  */
@@ -110,6 +112,16 @@ tb_event tb_finish(uint32_t part, tb_regs regs);
 
 /* Power off and on again. Refusals 1, 3. */
 tb_event tb_power_cycle(uint32_t part, tb_regs regs);
+
+/*
+ * Brings the caller's meter up to date where it lies, by what a transaction
+ * answered: its `number`, and the first byte `op` that it was sent (any number
+ * if none was). After 0, op 02 adds one to programs; 20, 52, D8, C7 or 60 one to
+ * erases; 01 one to writes. After 10 to 16, one more is ignored. Nothing else
+ * counts. So the meter handed to tb_transact becomes the one that it answers.
+ * The answer is 0 or the refusal. Refusals 1, 7.
+ */
+uint32_t tb_count(uint32_t part, tb_meter *meter, uint32_t number, uint32_t op);
 
 /* Plays a tape and drops the outputs. Refusals 1, 2, 3, 30, 31, 7, all before the first record. */
 tb_answer tb_replay(uint32_t part, tb_regs regs, tb_meter meter,

@@ -1,4 +1,4 @@
-/* B1 and B9 from C: what a C program gets from the archive, and whether the paper says so. */
+/* B1, B9 and counting from C: what a C program gets from the archive, and whether the paper says so. */
 #include "tunebriar.h"
 
 #include <stdio.h>
@@ -13,6 +13,15 @@ static void expect(const char *what, unsigned long long got, unsigned long long 
 {
     int same = got == expected;
     printf("%-4s %s: %llX, expected %llX\n", same ? "ok" : "FAIL", what, got, expected);
+    failed += !same;
+}
+
+static void expect_meter(const char *what, tb_meter got, tb_meter expected)
+{
+    int same = got.programs == expected.programs && got.erases == expected.erases &&
+               got.writes == expected.writes && got.ignored == expected.ignored;
+    printf("%-4s %s: %u %u %u %u\n", same ? "ok" : "FAIL", what, (unsigned)got.programs,
+           (unsigned)got.erases, (unsigned)got.writes, (unsigned)got.ignored);
     failed += !same;
 }
 
@@ -34,6 +43,8 @@ static void b1(uint8_t *array)
     expect("B1 erases", a.meter.erases, 2);
     expect("B1 writes", a.meter.writes, 3);
     expect("B1 ignored", a.meter.ignored, 4);
+    expect("B1 count", tb_count(1, &meter, a.number, bytes[0]), 0);
+    expect_meter("B1 counted", meter, a.meter);
 }
 
 /* Asleep, `05 00`: 11, output FF FF; one is added to the ignored. */
@@ -50,6 +61,8 @@ static void b9(uint8_t *array)
     expect("B9 output 0", out[0], 0xFF);
     expect("B9 output 1", out[1], 0xFF);
     expect("B9 ignored", a.meter.ignored, 1);
+    expect("B9 count", tb_count(1, &meter, a.number, bytes[0]), 0);
+    expect_meter("B9 counted", meter, a.meter);
 }
 
 /* Null pointers where the length is 0, and the structs that come back by value. */
@@ -66,6 +79,24 @@ static void none(uint8_t *array)
     expect("finish, part 257", tb_finish(257, busy).number, 1);
 }
 
+/* Each count by itself, then the two refusals, which leave the meter. */
+static void counts(void)
+{
+    tb_meter meter = {1, 2, 3, UINT32_MAX - 1};
+    tb_count(1, &meter, 0, 0x02);
+    tb_count(1, &meter, 0, 0x60);
+    tb_count(1, &meter, 0, 0x01);
+    expect_meter("one each", meter, (tb_meter){2, 3, 4, UINT32_MAX - 1});
+    expect("op 258", tb_count(1, &meter, 0, 258), 0);
+    expect("a refused one", tb_count(1, &meter, 6, 0x02), 0);
+    expect_meter("nothing more", meter, (tb_meter){2, 3, 4, UINT32_MAX - 1});
+    expect("one ignored", tb_count(1, &meter, 16, 0x02), 0);
+    expect("full, program", tb_count(1, &meter, 0, 0x02), 7);
+    expect("full, ignored", tb_count(1, &meter, 10, 0x02), 7);
+    expect("full, part 257", tb_count(257, &meter, 0, 0x02), 1);
+    expect_meter("full, untouched", meter, (tb_meter){2, 3, 4, UINT32_MAX});
+}
+
 int main(void)
 {
     uint8_t *array = malloc(SIZE);
@@ -77,6 +108,7 @@ int main(void)
     b1(array);
     b9(array);
     none(array);
+    counts();
     free(array);
     return failed != 0;
 }

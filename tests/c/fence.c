@@ -44,6 +44,8 @@ static uint8_t *copied(yard y, const uint8_t *from, size_t n, int at_end)
 }
 
 static uint64_t sum;
+/* Guard bytes that a count has changed. */
+static unsigned long broken;
 
 static void add(uint64_t number)
 {
@@ -138,6 +140,30 @@ static void jobs(yard in, yard payload, yard tape, int at_end)
     }
 }
 
+/* Meters at a fence, and guard words on their open side. */
+static void meters(yard in, int at_end)
+{
+    enum { GUARD = 64 };
+    const uint32_t tops[] = {0, UINT32_MAX - 1, UINT32_MAX};
+    const uint32_t numbers[] = {0, 6, 9, 10, 16, 17, 256, 266, UINT32_MAX};
+    uint8_t *guard = lend(in, GUARD + sizeof(tb_meter), at_end) + (at_end ? 0 : sizeof(tb_meter));
+    tb_meter *meter = (void *)lend(in, sizeof *meter, at_end);
+    for (size_t t = 0; t < COUNT(tops); t++)
+        for (size_t n = 0; n < COUNT(numbers); n++)
+            for (uint32_t op = 0; op < 600; op++)
+                for (uint32_t part = 0; part <= 2; part++) {
+                    *meter = (tb_meter){5, 6, 7, tops[t]};
+                    memset(guard, 0xA5, GUARD);
+                    add(tb_count(part, meter, numbers[n], op));
+                    add(meter->programs);
+                    add(meter->erases);
+                    add(meter->writes);
+                    add(meter->ignored);
+                    for (size_t i = 0; i < GUARD; i++)
+                        broken += guard[i] != 0xA5;
+                }
+}
+
 static uint64_t all(yard array, yard out, yard in, yard payload, yard tape, int at_end)
 {
     sum = 0xCBF29CE484222325u;
@@ -145,6 +171,7 @@ static uint64_t all(yard array, yard out, yard in, yard payload, yard tape, int 
     transactions(array, out, in, at_end);
     tapes(array, in, at_end);
     jobs(in, payload, tape, at_end);
+    meters(in, at_end);
     for (size_t i = 0; i < SIZE; i++)
         add(array.first[i]);
     return sum;
@@ -160,5 +187,6 @@ int main(void)
     uint64_t after = all(array, out, in, payload, tape, 1);
     printf("sum after a fence %016llX, before one %016llX\n", (unsigned long long)before,
            (unsigned long long)after);
-    return before != after;
+    printf("guard bytes changed: %lu\n", broken);
+    return before != after || broken != 0;
 }

@@ -6,12 +6,16 @@
 
 #ifdef __cplusplus
 #define LAYOUT(fact) static_assert(fact, #fact)
+#define ALIGNMENT(type) alignof(type)
 #else
 #define LAYOUT(fact) _Static_assert(fact, #fact)
+#define ALIGNMENT(type) _Alignof(type)
 #endif
 
 LAYOUT(sizeof(tb_regs) == 8 && offsetof(tb_regs, awake) == 4);
 LAYOUT(sizeof(tb_meter) == 16 && offsetof(tb_meter, ignored) == 12);
+LAYOUT(offsetof(tb_meter, erases) == 4 && offsetof(tb_meter, writes) == 8);
+LAYOUT(ALIGNMENT(tb_meter) == 4);
 LAYOUT(sizeof(tb_answer) == 40 && offsetof(tb_answer, index) == 8);
 LAYOUT(offsetof(tb_answer, regs) == 16 && offsetof(tb_answer, meter) == 24);
 LAYOUT(sizeof(tb_event) == 24 && offsetof(tb_event, regs) == 16);

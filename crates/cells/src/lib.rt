@@ -3,10 +3,10 @@ ghost use mathlib.Core.Path.{_≡_};
 ghost use Prim.Native.Nat.{_+_, _%_, _≤_, _<_};
 ghost use lib.Bits.{bitAnd};
 ghost use lib.ListN.{length, getD};
-ghost use Rattle.lists.specs.Choice.{if_then_else_, _=?_};
 ghost use Rattle.lists.specs.Places.{tabulate, patched};
 ghost use Rattle.rules.specs.Units.{page, pageStart};
 ghost use Rattle.rules.specs.Cells.{ff, programmed};
+ghost use Rattle.cells.specs.InTurn.{inTurn};
 ghost use Rattle.cells.specs.Page.{lastSent, programmedAt};
 
 // ---- one value, or two in turn, at every place
@@ -23,8 +23,8 @@ pub fn fill(s: &mut [u8], v: u8)
 }
 
 // The bytes at even places become first, the others second.
-pub fn alternate(s: &mut [u8], first: u8, second: u8)
-    ensures { λ _. ⌜ now (s .exit) ≡ tabulate (length (now (s .entry))) (λ j. if j % 2 =? 0 then first else second) ⌝ }
+pub fn in_turn(s: &mut [u8], first: u8, second: u8)
+    ensures { λ _. ⌜ now (s .exit) ≡ tabulate (length (now (s .entry))) (inTurn first second) ⌝ }
 {
     let mut i = 0;
     while i < s.len() {
@@ -47,8 +47,8 @@ pub fn erase(array: &mut [u8], a: usize, n: usize)
 
 // The last byte sent to each place of the page, FF where none is: FF leaves what it is ANDed into.
 fn latch(off: usize, bytes: &[u8]) -> [u8; 256]
-    requires { ⌜ (off < 256) × (length (now bytes) < 4294967296) ⌝ }
-    ensures { λ r. ⌜ r ≡ tabulate 256 (λ j. lastSent off (now (bytes .entry)) j 255) ⌝ }
+    requires { ⌜ (off < page) × (length (now bytes) < 4294967296) ⌝ }
+    ensures { λ r. ⌜ r ≡ tabulate page (λ j. lastSent off (now (bytes .entry)) j 255) ⌝ }
 {
     let mut buf = [255u8; 256];
     let mut i = 0;
@@ -72,19 +72,19 @@ fn and_in(s: &mut [u8], bytes: &[u8])
     }
 }
 
-// The bytes go to the page from the offset on, and wrap inside it.
-pub fn program(page: &mut [u8], off: usize, bytes: &[u8])
-    requires { ⌜ (length (now page) ≡ 256) × (off < 256) × (length (now bytes) < 4294967296) ⌝ }
-    ensures { λ _. ⌜ now (page .exit) ≡ tabulate 256 (programmedAt (now (page .entry)) off (now (bytes .entry))) ⌝ }
+// The bytes go to the page s from the offset on, and wrap inside it.
+fn program(s: &mut [u8], off: usize, bytes: &[u8])
+    requires { ⌜ (length (now s) ≡ page) × (off < page) × (length (now bytes) < 4294967296) ⌝ }
+    ensures { λ _. ⌜ now (s .exit) ≡ tabulate page (programmedAt (now (s .entry)) off (now (bytes .entry))) ⌝ }
 {
     let end = off + bytes.len();
     // Nothing wraps, so no place is sent twice.
     if end <= 256 {
-        and_in(&mut page[off..end], bytes);
+        and_in(&mut s[off..end], bytes);
         return;
     }
     let sent = latch(off, bytes);
-    and_in(page, &sent);
+    and_in(s, &sent);
 }
 
 // The bytes go to the page of address a, from its offset on.
@@ -97,10 +97,10 @@ pub fn program_at(array: &mut [u8], a: usize, bytes: &[u8])
     program(&mut array[base..end], a % 256, bytes);
 }
 
-// ---- reads
+// ---- copies
 
 // out becomes what from is.
-fn copy(out: &mut [u8], from: &[u8])
+pub fn copy(out: &mut [u8], from: &[u8])
     requires { ⌜ length (now out) ≡ length (now from) ⌝ }
     ensures { λ _. ⌜ now (out .exit) ≡ now (from .entry) ⌝ }
 {
@@ -113,7 +113,7 @@ fn copy(out: &mut [u8], from: &[u8])
 
 // out becomes the array's bytes from a on; after the array's last comes its first.
 pub fn copy_wrapped(out: &mut [u8], array: &[u8], a: usize)
-    requires { ⌜ (a < length (now array)) × (length (now out) ≤ length (now array)) × (length (now array) < 4294967296) ⌝ }
+    requires { ⌜ (a < length (now array)) × (length (now out) ≤ length (now array)) ⌝ }
     ensures { λ _. ⌜ now (out .exit) ≡ tabulate (length (now (out .entry))) (λ j. getD (now (array .entry)) ((a + j) % length (now (array .entry))) 0) ⌝ }
 {
     let n = out.len();

@@ -1,4 +1,4 @@
-// The chip: a transaction, a finish event, a power cycle.
+// The chip: a transaction, a finish event, a power cycle; and the meter by itself.
 use rules::Event;
 use rules::Kept;
 use rules::Kind;
@@ -10,6 +10,7 @@ use rules::Transacted;
 use rules::Verdict;
 use rules::Write;
 
+pub mod count;
 mod refuse;
 
 ghost use mathlib.Core.Path.{_≡_};

@@ -18,3 +18,5 @@ pub mod UniqueHeld
 pub mod RegsMeant
 pub mod JobRefused
 pub mod NumbersTell
+pub mod CountTold
+pub mod IgnoredLent

@@ -1,6 +1,6 @@
 -- What the C answers leave out is told by their number: no number of a call that is served is the number of a refusal.
 use mathlib.Core.Path.{_≡_, refl, sym, ap, _∙_}
-use mathlib.Core.Bool.{Bool, true, false, _||_}
+use mathlib.Core.Bool.{Bool, true, false, _&&_, _||_}
 use mathlib.Core.List.{List, [], _∷_, _++_}
 use mathlib.Core.Logic.{_⊎_, inl, inr, ⊎-elim}
 use Prim.Native.Nat.{ℕ, zero, suc, _≤_}
@@ -115,7 +115,7 @@ verdict-number : (p : Part) (r : Regs) (b : List ℕ) (x : ℕ) (high : Bool) (v
 verdict-number p r b x high (CarriedOut k) e = inl refl
 verdict-number p r b x high (Ignored w) e = inr (ignored-number p r b x high w e)
 
-transact-row : (part al : ℕ) (kept : Kept) (n x ol : ℕ) (m : Meter) → OneOf (1 ∷ 2 ∷ 3 ∷ 4 ∷ 5 ∷ 6 ∷ 7 ∷ 0 ∷ []) (transactRefusal part al kept n x ol m .number)
+pub transact-row : (part al : ℕ) (kept : Kept) (n x ol : ℕ) (m : Meter) → OneOf (1 ∷ 2 ∷ 3 ∷ 4 ∷ 5 ∷ 6 ∷ 7 ∷ 0 ∷ []) (transactRefusal part al kept n x ol m .number)
 unfolding transactRefusal
 transact-row part al kept n x ol m =
     check num _ (refusal 1) _ _ (check num _ (refusal 2) _ _ (check num _ (refusal 3) _ _ (check num _ (refusal 4) _ _
@@ -214,7 +214,7 @@ unfoldable pub holdsIn : (ℕ → Bool) → List ℕ → Bool
 holdsIn f [] = false
 holdsIn f (k ∷ ks) = f k || holdsIn f ks
 
-none-holds : (f : ℕ → Bool) (row : List ℕ) (n : ℕ) → holdsIn f row ≡ false → OneOf row n → f n ≡ false
+pub none-holds : (f : ℕ → Bool) (row : List ℕ) (n : ℕ) → holdsIn f row ≡ false → OneOf row n → f n ≡ false
 unfolding OneOf holdsIn
 none-holds f [] n h k = absurd k
 none-holds f (x ∷ row) n h k =
@@ -228,10 +228,12 @@ numbers-tell Fine row f h k true number t = sym (h number (t .of-served refl))
 numbers-tell Fine row f h k false number t = sym (none-holds f row number k (t .of-refused refl))
 
 abbrev pub isVerdict : ℕ → Bool
-isVerdict n = (n =? 0) || (10 ≤? n)
+isVerdict n = (n =? 0) || ((10 ≤? n) && (n ≤? 16))
 
 verdict-passes : (n : ℕ) → VerdictNumber n → isVerdict n ≡ true
-verdict-passes n = ⊎-elim (λ e. either-true (n =? 0) (10 ≤? n) .1 (inl (eq-eqb n 0 e))) (λ h. either-true (n =? 0) (10 ≤? n) .1 (inr (le-leb 10 n (h .0))))
+verdict-passes n =
+    let t : Bool = (10 ≤? n) && (n ≤? 16) in
+    ⊎-elim (λ e. either-true (n =? 0) t .1 (inl (eq-eqb n 0 e))) (λ h. either-true (n =? 0) t .1 (inr (rw (le-leb 10 n (h .0), le-leb n 16 (h .1)) refl)))
 
 pub transact-served-told : (part : ℕ) (kept : Kept) (m : Meter) (l o b : List ℕ) (x wp : ℕ)
     → transactOf part kept m l o b x wp .answer .served ≡ isVerdict (tbTransact (transactOf part kept m l o b x wp) .answer .number)

@@ -1,4 +1,4 @@
--- A whole tape read through the reader: its k-th read answers record k, and after the last it stays at the end.
+-- A whole tape read through the reader: its k-th read answers record k, and every read after the last answers the end.
 use mathlib.Core.Path.{_≡_, refl, sym, ap, _∙_}
 use mathlib.Core.Bool.{Bool, true, false, not}
 use mathlib.Core.List.{List}
@@ -6,7 +6,7 @@ use Prim.Native.Nat.{ℕ, zero, suc, _+_, _≤_, _<_}
 use native.Mathlib.Omega.{arith}
 use native.Mathlib.Numerals.{add-one}
 use lib.Dec.{eqb, leb}
-use borrow.Author.Tests.{le-leb}
+use borrow.Author.Tests.{le-leb, leb-true, leb-false}
 use denote.Ref.{now}
 use Rattle.lists.specs.Choice.{if_then_else_}
 use Rattle.rules.specs.declared.AtPlace.{AtPlace}
@@ -61,10 +61,30 @@ module _ (r : Reader) (start : r .place ≡ 0) (clean : Clean (now (r .bytes))) 
       (λ i. recOf t (readAt (now (same-bytes k i)) (place-is k (omega arith) i)))
       ∙ ap (recOf t) (read-said t k (clean .whole-records) h (clean .good k h)) ∙ sym (said-rec t k)
 
-  -- and the read after the last gives the end
-  pub read-end : found (afterReads (records (now (r .bytes))) r) ≡ End
+  -- a read at the place after the last record gives the end
+  at-end : (k : ℕ) → afterReads k r .place ≡ records (now (r .bytes)) → found (afterReads k r) ≡ End
   unfolding readAt if_then_else_
-  read-end =
-      let t = now (r .bytes) in
-      let n = records t in
-      (λ i. readAt (now (same-bytes n i)) (place-is n (omega arith) i)) ∙ rw (clean .whole-records, le-leb n n (omega arith))
+  at-end k e =
+      let n = records (now (r .bytes)) in
+      (λ i. readAt (now (same-bytes k i)) (e i)) ∙ rw (clean .whole-records, le-leb n n (omega arith))
+
+  -- .. and leaves it
+  rests : (k : ℕ) → records (now (r .bytes)) ≤ k → afterReads k r .place ≡ records (now (r .bytes))
+  unfolding afterReads
+  rests zero h = omega (arith, start)
+  rests (suc k) h = go (leb n k) refl (rests k)
+    where
+      n : ℕ
+      n = records (now (r .bytes))
+
+      go : (t : Bool) → leb n k ≡ t → (n ≤ k → afterReads k r .place ≡ n) → after (afterReads k r) .place ≡ n
+      go true e ih =
+          let p = ih (leb-true n k e) in
+          ap (nextPlace (afterReads k r .place)) (at-end k p) ∙ p
+      go false e ih =
+          let l = leb-false n k e in
+          place-is (suc k) (omega arith) ∙ omega arith
+
+  -- every read after the last record gives the end
+  pub read-end : (k : ℕ) → records (now (r .bytes)) ≤ k → found (afterReads k r) ≡ End
+  read-end k h = at-end k (rests k h)

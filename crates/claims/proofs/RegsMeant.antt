@@ -125,7 +125,7 @@ module _ (part s : ℕ) (job payload buffer : List ℕ) (served : translateOf pa
   back : replayOf part kept m l (tapeWritten part s job payload buffer) .answer .regs ≡ keptOf t
   back = ap (λ (w : ReplaySeen). w .answer .regs) (job-means-what-it-says part s job payload buffer served kept m l long ready roomy .played)
 
-  -- under the hypotheses of `job-means-what-it-says`: the registers handed back, bit for bit
+  -- under the hypotheses of `job-means-what-it-says`: the registers handed back, one by one; S10 to S15 are 0 by `replay-formed`
   pub job-leaves-registers : RegsSaid (regsOf kept) (stepsOf job) (regsOf (replayOf part kept m l (tapeWritten part s job payload buffer) .answer .regs))
   job-leaves-registers =
       let small = last-small job (regsOf kept .setting) 0 (stepCount job) (start-small kept) in

@@ -77,20 +77,6 @@ rows-decide =
     ⊳ (refl, rule (orMore 1) any)
     ⊳ end
 
--- for three of the rows, in words: program, erase a sector, write status
-
-pub program-row : (n x : ℕ) → shaped (partOf 1) 0x02 n x ≡ true ↔ (5 ≤ n) × (x ≡ 0)
-unfolding partOf fm25q16 shaped shapedIn fmCommands if_then_else_
-program-row = rule (orMore 5) none
-
-pub sector-row : (n x : ℕ) → shaped (partOf 1) 0x20 n x ≡ true ↔ (n ≡ 4) × (x ≡ 0)
-unfolding partOf fm25q16 shaped shapedIn fmCommands if_then_else_
-sector-row = rule (exactly 4) none
-
-pub status-row : (n x : ℕ) → shaped (partOf 1) 0x01 n x ≡ true ↔ ((n ≡ 2) ⊎ (n ≡ 3)) × (x ≡ 0)
-unfolding partOf fm25q16 shaped shapedIn fmCommands if_then_else_
-status-row = rule (either 2 3) none
-
 -- a code that no row has is unknown: 12
 in-no-row : (op : ℕ) (ws : List Row) → Each (λ w. op ≡ w .code → ⊥) ws → commandIn ws op ≡ Unknown
 unfolding commandIn if_then_else_

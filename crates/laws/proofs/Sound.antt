@@ -6,7 +6,7 @@ use Prim.Native.Nat.{ℕ, zero, suc, _+_, _-_, _*_, _/_, _%_, _≤_, _<_}
 use native.Mathlib.Omega.{arith}
 use lib.Dec.{lit≤}
 use lib.ListN.{getD}
-use borrow.Author.Tests.{eqb-true, leb-true}
+use borrow.Author.Tests.{eqb-true, leb-true, ne-eqb}
 use Rattle.lists.specs.Choice.{if_then_else_, _=?_, _≤?_}
 use Rattle.lists.proofs.Choice.{both-true}
 use Rattle.rules.specs.declared.EraseUnit.{EraseUnit}
@@ -14,11 +14,11 @@ use Rattle.rules.specs.declared.EraseUnit.the-variants.{Sector, Block32, Block6
 use Rattle.rules.specs.declared.Write.{Write}
 use Rattle.rules.specs.declared.Write.the-variants.{Program, Erase, WriteStatus}
 use Rattle.rules.specs.declared.Kind.{Kind}
-use Rattle.rules.specs.declared.Command.the-variants.{Known}
+use Rattle.rules.specs.declared.Command.the-variants.{Known, Unknown}
 use Rattle.rules.specs.Kinds.{codeOf}
 use Rattle.rules.specs.Units.{page, unitStart, unitLength}
-use Rattle.rules.specs.Part.{Part, commandOf}
-use Rattle.rules.specs.Fm25q16.{fmSize, fmSec0, fmSec1, fmArea, fmLo, fmHi, fm25q16}
+use Rattle.rules.specs.Part.{Part, Row, commandIn, commandOf}
+use Rattle.rules.specs.Fm25q16.{fmSize, fmCommands, fmSec0, fmSec1, fmArea, fmLo, fmHi, fm25q16}
 use Rattle.rules.specs.Parts.{partOf}
 use Rattle.rules.specs.Writes.{reachStart, reachLength}
 use Rattle.rules.proofs.Apart.{code-back}
@@ -36,8 +36,8 @@ pub record Sound (p : Part) : Type 0 where
   pub hi-end : (s : ℕ) → p .hi s ≤ p .size
   -- the code of each kind says that kind to the chip
   pub codes : (k : Kind) → commandOf p (codeOf k) ≡ Known k
-  -- a status word fits 16 bits
-  pub status-fits : p .statusEnd ≤ 65536
+  -- a code is a byte
+  pub byte-codes : (op : ℕ) → 255 < op → commandOf p op ≡ Unknown
 
 -- ---- what follows for any chip that keeps them
 
@@ -107,8 +107,21 @@ fm-hi s = if-area _ (area refl (lit≤ tt)) (fm-area s)
 pub fm-area-small : (s : ℕ) → fmArea s ≤ fmSize
 fm-area-small s = fm-area s .small
 
+-- a test of a whole table of commands, which is computed, and what it says of a number that is no byte
+bytes-only : List Row → Bool
+bytes-only [] = true
+bytes-only (w ∷ ws) = (w .code ≤? 255) && bytes-only ws
+
+no-command : (ws : List Row) → bytes-only ws ≡ true → (op : ℕ) → 255 < op → commandIn ws op ≡ Unknown
+unfolding bytes-only commandIn if_then_else_
+no-command [] e op h = refl
+no-command (w ∷ ws) e op h =
+    let b = both-true (w .code ≤? 255) (bytes-only ws) e in
+    let k = leb-true (w .code) 255 (b .0) in
+    rw (ne-eqb op (w .code) (λ q. omega arith)) (no-command ws (b .1) op h)
+
 pub part-sound : (part : ℕ) → Sound (partOf part)
-unfolding partOf fm25q16 commandOf
+unfolding partOf fm25q16 fmCommands commandOf bytes-only
 part-sound part =
     record {
       blocks = 32;
@@ -119,5 +132,5 @@ part-sound part =
       hi-page = λ s. fm-hi s .whole;
       hi-end = λ s. fm-hi s .small;
       codes = code-back;
-      status-fits = lit≤ tt;
+      byte-codes = no-command fmCommands refl;
     }

@@ -1,5 +1,6 @@
-// What a search among places answers, and the byte at a place. The rest of this crate is definitions and laws.
+// What a search among places answers, the byte at a place, the lesser of two numbers. The rest of this crate is definitions and laws.
 ghost use mathlib.Core.Path.{_≡_};
+ghost use Prim.Native.Nat.{min};
 ghost use lib.ListN.{getD};
 
 pub enum Found {
@@ -15,4 +16,10 @@ pub fn byte_at(b: &[u8], i: usize) -> u8
         return b[i];
     }
     0
+}
+
+pub fn lesser(a: usize, b: usize) -> usize
+    ensures { λ r. ⌜ r ≡ min a b ⌝ }
+{
+    if a < b { a } else { b }
 }

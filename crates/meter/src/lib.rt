@@ -1,15 +1,13 @@
 // The meter: one more program, erase or register write that was carried out, or one more that was ignored.
 use rules::Kind;
 use rules::Meter;
-use rules::Metered;
-use rules::Verdict;
 use rules::Write;
 ghost use mathlib.Core.Path.{_≡_};
 ghost use mathlib.Core.Bool.{Bool};
 ghost use Prim.Native.Nat.{_+_};
 ghost use Rattle.rules.specs.Kinds.{ofWrite};
 ghost use Rattle.lists.specs.Choice.{_≤?_};
-ghost use Rattle.rules.specs.Counts.{countLimit, counted, ignoredCounted, meteredOf, room};
+ghost use Rattle.rules.specs.Counts.{countLimit, counted, ignoredCounted, room};
 ghost use Rattle.laws.specs.Room.{Room};
 
 fn count(m: Meter, w: Write) -> Meter
@@ -75,35 +73,4 @@ pub fn has_room(m: Meter, n: usize) -> bool
         return false;
     }
     fits_count(m.ignored, n)
-}
-
-// Refusal 7 at a full count; by value, so that the proof of count_in by hand meets no branch.
-pub fn metered(m: Meter, v: Verdict) -> Metered
-    ensures { λ t. ⌜ t ≡ meteredOf m v ⌝ }
-{
-    if !has_room(m, 1) {
-        return Metered {
-            number: 7,
-            meter: m,
-        };
-    }
-    let Verdict::CarriedOut(kind) = v else {
-        return Metered {
-            number: 0,
-            meter: one_ignored(m),
-        };
-    };
-    Metered {
-        number: 0,
-        meter: meter_step(m, kind),
-    }
-}
-
-// The caller's meter brought up to date where it lies; thin, since a lent struct is proved by hand.
-pub fn count_in(m: &mut Meter, v: Verdict) -> u8
-    ensures { λ r. ⌜ (r ≡ meteredOf (now (m .entry)) v .number) × (now (m .exit) ≡ meteredOf (now (m .entry)) v .meter) ⌝ }
-{
-    let t = metered(*m, v);
-    *m = t.meter;
-    t.number
 }

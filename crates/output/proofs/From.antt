@@ -15,7 +15,7 @@ use Rattle.lists.proofs.Patched.{by-place, patched-length, patched-inside, patc
 use Rattle.rules.specs.Cells.{ff}
 use Rattle.rules.specs.Part.{Part}
 use Rattle.rules.specs.Transaction.{fromPlace, makerDevice}
-use Rattle.output.specs.InTurn.{inTurn}
+use Rattle.cells.specs.InTurn.{inTurn}
 
 -- before its place nothing is driven
 pub below-place : (k : ℕ) (f : ℕ → ℕ) (i : ℕ) → i < k → fromPlace k f i ≡ 0xFF

@@ -7,7 +7,7 @@ ghost use Prim.Native.Nat.{_≤_, _<_};
 ghost use lib.ListN.{length};
 ghost use Rattle.lists.specs.Places.{tabulate};
 ghost use Rattle.rules.specs.Parts.{partOf};
-ghost use Rattle.output.specs.InTurn.{inTurn};
+ghost use Rattle.cells.specs.InTurn.{inTurn};
 ghost use Rattle.rules.specs.Transaction.{fromPlace, arrayFrom, makerDevice, jedecBytes, drivenAt, outAt};
 
 // FF, and from place k on the byte v.
@@ -44,7 +44,7 @@ fn pair_from(out: &mut [u8], first: u8, second: u8)
     if n <= 4 {
         return;
     }
-    cells::alternate(&mut out[4..n], first, second);
+    cells::in_turn(&mut out[4..n], first, second);
 }
 
 // FF, and from place 4 on maker and device byte in turn, device first if the lowest address bit is 1.

@@ -6,15 +6,15 @@ use rules::Regs;
 use rules::Write;
 ghost use mathlib.Core.Path.{_≡_};
 ghost use mathlib.Core.Bool.{true, _&&_, _||_};
-ghost use mathlib.Core.List.{[], _∷_};
 ghost use Prim.Native.Nat.{_≤_};
 ghost use lib.ListN.{getD};
 ghost use Rattle.lists.specs.Choice.{_=?_, _≤?_};
 ghost use Rattle.rules.specs.Part.{commandIn, shapedIn};
-ghost use Rattle.rules.specs.Fm25q16.{fmCommands, fmHeardAsleep, fmHeardBusy, fmArea, fmLo, fmHi, fmFirst, fmSecond, fmStatusWritten, fmGuardBytes};
+ghost use Rattle.rules.specs.Fm25q16.{fmSize, fmCommands, fmHeardAsleep, fmHeardBusy, fmArea, fmLo, fmHi, fmFirst, fmSecond, fmJedec, fmStatusWritten, fmGuardBytes};
 
 pub const SIZE: usize = 2097152;
 
+// S10 to S15 are 0.
 pub const STATUS_END: u32 = 1024;
 
 pub const MAKER: u8 = 0xF8;
@@ -79,7 +79,7 @@ fn two_or_three(n: usize, x: u32) -> bool
 }
 
 // Five bytes or more, and no leftover bits.
-fn program_shape(n: usize, x: u32) -> bool
+fn five_or_more(n: usize, x: u32) -> bool
     ensures { λ r. ⌜ r ≡ ((5 ≤? n) && (x =? 0)) ⌝ }
 {
     if n < 5 {
@@ -99,7 +99,7 @@ pub fn is_shaped(op: u8, n: usize, x: u32) -> bool
         0x01 => two_or_three(n, x),
         0x03 => or_more(4, n),
         0x0B => or_more(5, n),
-        0x02 => program_shape(n, x),
+        0x02 => five_or_more(n, x),
         0x20 => exactly(4, n, x),
         0x52 => exactly(4, n, x),
         0xD8 => exactly(4, n, x),
@@ -130,7 +130,7 @@ pub fn heard_busy(op: u8) -> bool
 
 // How many bytes a setting protects.
 fn area(s: u8) -> usize
-    ensures { λ r. ⌜ (r ≡ fmArea s) × (r ≤ 2097152) ⌝ }
+    ensures { λ r. ⌜ (r ≡ fmArea s) × (r ≤ fmSize) ⌝ }
 {
     let bp = (s % 8) as usize;
     if s / 16 % 2 == 0 {
@@ -158,7 +158,7 @@ pub fn hi(s: u8) -> usize
 }
 
 pub fn jedec(j: usize) -> u8
-    ensures { λ r. ⌜ r ≡ getD (0xF8 ∷ 0x32 ∷ 0x15 ∷ []) j 255 ⌝ }
+    ensures { λ r. ⌜ r ≡ getD fmJedec j 255 ⌝ }
 {
     match j {
         0 => 0xF8,

@@ -1,4 +1,4 @@
-// What the code asks of a chip's description, by part number: a new chip is an arm in each of these, and no contract moves.
+// What the code asks of a chip's description, by part number: a new chip is an arm in each of these, and no contract moves but that of `guard_bytes`, which gives two bytes.
 use rules::Command;
 use rules::Regs;
 
@@ -10,7 +10,7 @@ ghost use lib.ListN.{getD};
 ghost use Rattle.rules.specs.Part.{commandOf, shaped};
 ghost use Rattle.rules.specs.Parts.{isPart, partOf};
 
-// Refusal 1.
+// Not refusal 1.
 pub fn is_part(part: u32) -> bool
     ensures { λ r. ⌜ r ≡ isPart part ⌝ }
 {
@@ -61,7 +61,7 @@ pub fn area_lo(part: u32, s: u8) -> usize
     fm25q16::lo(s)
 }
 
-// .. up to here.
+// .. up to here, and without it.
 pub fn area_hi(part: u32, s: u8) -> usize
     ensures { λ r. ⌜ r ≡ partOf part .hi s ⌝ }
 {

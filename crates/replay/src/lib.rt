@@ -10,7 +10,7 @@ use rules::Replayed;
 use rules::Sent;
 ghost use mathlib.Core.Path.{_≡_};
 ghost use mathlib.Core.Bool.{true};
-ghost use Prim.Native.Nat.{ℕ, _+_, _≤_, _<_, min};
+ghost use Prim.Native.Nat.{ℕ, _+_, _≤_, _<_};
 ghost use lib.ListN.{length, take, drop};
 ghost use Rattle.rules.specs.Parts.{partOf};
 ghost use Rattle.rules.specs.Tape.{records, recordLength, transaction, recAt, recsFrom};
@@ -179,7 +179,7 @@ pub fn replay_first(
     if number != 0 {
         return Replayed::Refused(z);
     }
-    let n = lesser(k, tape::record_count(tape));
+    let n = lists::lesser(k, tape::record_count(tape));
     let start = Playing {
         regs: regs::regs_of(kept),
         meter: m,
@@ -191,12 +191,6 @@ pub fn replay_first(
         regs: regs::kept_of(next),
         meter: meter,
     })
-}
-
-fn lesser(a: usize, b: usize) -> usize
-    ensures { λ r. ⌜ r ≡ min a b ⌝ }
-{
-    if a < b { a } else { b }
 }
 
 // The whole tape.

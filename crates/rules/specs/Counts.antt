@@ -1,9 +1,8 @@
 -- The meter: what counts, and how much room is left. Document 01, "Verdicts" and refusal 7.
 use Prim.Native.Nat.{ℕ, _+_}
 use mathlib.Core.Bool.{Bool, _&&_}
-use Rattle.lists.specs.Choice.{if_then_else_, _≤?_}
+use Rattle.lists.specs.Choice.{_≤?_}
 use Rattle.rules.specs.declared.Meter.{Meter}
-use Rattle.rules.specs.declared.Metered.{Metered}
 use Rattle.rules.specs.declared.Write.{Write}
 use Rattle.rules.specs.declared.Write.the-variants.{Program, Erase, WriteStatus}
 use Rattle.rules.specs.declared.Verdict.{Verdict}
@@ -35,7 +34,3 @@ room m n =
     && (m .erases + n ≤? countLimit)
     && (m .writes + n ≤? countLimit)
     && (m .ignored + n ≤? countLimit)
-
--- the meter brought up to date by itself: a full count is 7, and the meter stays
-unfoldable pub meteredOf : Meter → Verdict → Metered
-meteredOf m v = if room m 1 then record { number = 0; meter = meterAfter m v } else record { number = 7; meter = m }

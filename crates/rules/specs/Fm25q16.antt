@@ -94,6 +94,9 @@ unfoldable pub fmGuardBytes : ℕ → List ℕ
 fmGuardBytes s = 4 * s ∷ 0x00 ∷ []
 
 -- the identification bytes are those of 001, 11.2.1
+abbrev pub fmJedec : List ℕ
+fmJedec = 0xF8 ∷ 0x32 ∷ 0x15 ∷ []
+
 unfoldable pub fm25q16 : Part
 fm25q16 =
     record {
@@ -106,7 +109,7 @@ fm25q16 =
       hi = fmHi;
       maker = 0xF8;
       device = 0x14;
-      jedec = 0xF8 ∷ 0x32 ∷ 0x15 ∷ [];
+      jedec = fmJedec;
       statusWritten = fmStatusWritten;
       guardBytes = fmGuardBytes;
     }

@@ -14,6 +14,7 @@ pub mod Events
 pub mod Refusals
 pub mod Transact
 pub mod EventEntries
+pub mod CountEntry
 pub mod Tape
 pub mod Play
 pub mod Replay

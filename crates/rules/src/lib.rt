@@ -18,9 +18,9 @@ pub struct Meter {
     pub ignored: u32,
 }
 
-// What becomes of a meter that is brought up to date: 0, or refusal 7 and the meter as it was.
+// What becomes of a meter that is brought up to date by itself: 0, or a refusal's number and the meter as it was.
 pub struct Metered {
-    pub number: u8,
+    pub number: u32,
     pub meter: Meter,
 }
 

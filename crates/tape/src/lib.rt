@@ -177,11 +177,7 @@ pub fn reading_at(tape: &[u8], place: usize) -> Reading
 fn clear(s: &mut [u8])
     ensures { λ _. ⌜ now (s .exit) ≡ replicate (length (now (s .entry))) 0 ⌝ }
 {
-    let mut i = 0;
-    while i < s.len() {
-        s[i] = 0;
-        i += 1;
-    }
+    cells::fill(s, 0);
 }
 
 // The bytes from a on become b.
@@ -189,11 +185,8 @@ pub fn put(s: &mut [u8], a: usize, b: &[u8])
     requires { ⌜ a + length (now b) ≤ length (now s) ⌝ }
     ensures { λ _. ⌜ now (s .exit) ≡ take a (now (s .entry)) ++ now (b .entry) ++ drop (a + length (now (b .entry))) (now (s .entry)) ⌝ }
 {
-    let mut i = 0;
-    while i < b.len() {
-        s[a + i] = b[i];
-        i += 1;
-    }
+    let e = a + b.len();
+    cells::copy(&mut s[a..e], b);
 }
 
 // Byte 3: the leftover bits, plus 8 where /WP is high.

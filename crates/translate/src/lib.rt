@@ -8,7 +8,7 @@ use rules::Translated;
 ghost use mathlib.Core.Bool.{true};
 ghost use mathlib.Core.Path.{_≡_};
 ghost use mathlib.Core.List.{[], _∷_, _++_};
-ghost use Prim.Native.Nat.{ℕ, _+_, _*_, _≤_, _<_, min};
+ghost use Prim.Native.Nat.{ℕ, _+_, _*_, _≤_, _<_};
 ghost use lib.ListN.{length};
 ghost use Rattle.rules.specs.Tape.{Rec, encodeRec, encode, recordLength};
 ghost use Rattle.rules.specs.Parts.{partOf};
@@ -105,12 +105,6 @@ fn put_guard(part: u32, tape: &mut [u8], k: usize, g: u8)
     put_three(tape, k, &b);
 }
 
-fn lesser(a: usize, b: usize) -> usize
-    ensures { λ r. ⌜ r ≡ min a b ⌝ }
-{
-    if a < b { a } else { b }
-}
-
 // The pages of a lay, in ascending order.
 fn put_lay(tape: &mut [u8], k: usize, s: Span, payload: &[u8])
     requires { ⌜ Short s × (s .offset + s .length ≤ length (now payload)) × Fits (now tape) k (3 * pagesTouched (s .address) (s .length)) ⌝ }
@@ -123,7 +117,7 @@ fn put_lay(tape: &mut [u8], k: usize, s: Span, payload: &[u8])
     let mut i = 0;
     while i < n {
         let room = 256 - a % 256;
-        let count = lesser(room, left);
+        let count = lists::lesser(room, left);
         let end = o + count;
         put_program(tape, k + 3 * i, a, &payload[o..end]);
         a += room;

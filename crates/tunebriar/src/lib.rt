@@ -18,6 +18,7 @@ ghost use Rattle.rules.specs.Status.{flag};
 ghost use Rattle.rules.specs.Verdict.{verdictTold};
 ghost use Rattle.rules.specs.Transact.{transactTold, transactOf};
 ghost use Rattle.rules.specs.EventEntries.{eventTold, finishOf, powerCycleOf};
+ghost use Rattle.rules.specs.CountEntry.{metered, countOf};
 ghost use Rattle.rules.specs.Replay.{replayTold, replayOf, replayFirstOf};
 ghost use Rattle.rules.specs.Tape.{readTold, readOf};
 ghost use Rattle.tunebriar.specs.Found.{tbPlain, tbFound};
@@ -101,6 +102,16 @@ fn replayed(kept: Kept, m: Meter, t: Replayed) -> TbAnswer
 }
 
 // ---- the entries
+
+// The caller's meter brought up to date where it lies; thin, since a lent struct is proved by hand.
+#[no_mangle]
+pub extern "C" fn tb_count(part: u32, meter: &mut Meter, number: u32, op: u32) -> u32
+    ensures { λ n. ⌜ metered n (now (meter .exit)) ≡ countOf part (now (meter .entry)) number op ⌝ }
+{
+    let t = chip::count::count(part, *meter, number, op);
+    *meter = t.meter;
+    t.number
+}
 
 #[no_mangle]
 pub extern "C" fn tb_transact(

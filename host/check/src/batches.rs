@@ -38,11 +38,12 @@ impl Plan {
     }
 }
 
-const PLANS: [Plan; 7] = [
+const PLANS: [Plan; 8] = [
     Plan::new("chained", 80, chained),
     Plan::new("any registers", 40, any_registers),
     Plan::new("hostile", 40, hostile),
     Plan::new("full meters", 10, full_meters),
+    crate::counts::PLAN,
     Plan::new("replays", 60, replays),
     Plan::new("long replays", 8, long_replays),
     Plan::new("reads", 15, reads),
@@ -121,8 +122,9 @@ fn soaked(twin: &mut Twin, options: &Options, plans: &[Plan], start: Instant) ->
 pub fn counted(twin: &Twin) -> String {
     let calls = |entry| twin.reached.calls(entry);
     format!(
-        "{} transactions, {} replays, {} translations, {} quotes, {} reads, {} events",
+        "{} transactions, {} counts, {} replays, {} translations, {} quotes, {} reads, {} events",
         calls(Entry::Transact),
+        calls(Entry::Count),
         calls(Entry::Replay) + calls(Entry::ReplayFirst),
         calls(Entry::Translate),
         calls(Entry::Quote),

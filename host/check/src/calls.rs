@@ -31,23 +31,12 @@ impl Kept {
 
 impl From<second::Answer> for Kept {
     fn from(answer: second::Answer) -> Kept {
-        let second::Meter {
-            programs,
-            erases,
-            writes,
-            ignored,
-        } = answer.meter;
         Kept {
             regs: ffi::Regs {
                 status: answer.regs.status,
                 awake: answer.regs.awake,
             },
-            meter: ffi::Meter {
-                programs,
-                erases,
-                writes,
-                ignored,
-            },
+            meter: lent_meter(answer.meter),
         }
     }
 }
@@ -93,6 +82,26 @@ impl fmt::Display for Call {
             f,
             "transaction {bytes} {numbers:?}, array {array}, out {out}"
         )
+    }
+}
+
+/// A meter by itself, and what it is brought up to date by.
+#[derive(Clone, Copy, Debug)]
+pub struct Counting {
+    /// The part number.
+    pub part: u32,
+    /// The meter.
+    pub meter: ffi::Meter,
+    /// What a transaction answered.
+    pub number: u32,
+    /// The first byte that it was sent.
+    pub op: u32,
+}
+
+impl fmt::Display for Counting {
+    fn fmt(&self, f: &mut fmt::Formatter<'_>) -> fmt::Result {
+        let (part, number, op, meter) = (self.part, self.number, self.op, self.meter);
+        write!(f, "count part {part} number {number} op {op:02X} {meter:?}")
     }
 }
 
@@ -188,6 +197,16 @@ pub fn regs_of(regs: ffi::Regs) -> second::Regs {
 #[must_use]
 pub fn meter_of(meter: ffi::Meter) -> second::Meter {
     second::Meter {
+        programs: meter.programs,
+        erases: meter.erases,
+        writes: meter.writes,
+        ignored: meter.ignored,
+    }
+}
+
+/// The second's meter as it is lent to the first.
+pub(crate) fn lent_meter(meter: second::Meter) -> ffi::Meter {
+    ffi::Meter {
         programs: meter.programs,
         erases: meter.erases,
         writes: meter.writes,

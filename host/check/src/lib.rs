@@ -10,6 +10,7 @@ use core::fmt::{Debug, Display};
 pub mod batches;
 pub mod bytes;
 pub mod calls;
+pub mod counts;
 pub mod edges;
 pub mod generate;
 pub mod grids;

@@ -7,7 +7,7 @@ use std::process::ExitCode;
 use check::options::{Options, USAGE};
 use check::reached::Entry;
 use check::suite::Suite;
-use check::{batches, edges, grids, orders, readings, tape_edges};
+use check::{batches, counts, edges, grids, orders, readings, tape_edges};
 
 /// Transactions, replays and translations that a whole run must compare.
 const AT_LEAST: u64 = 1_000_000;
@@ -38,6 +38,7 @@ fn main() -> ExitCode {
 fn all(suite: &mut Suite) {
     readings::run(suite);
     edges::run(suite);
+    counts::run(suite);
     tape_edges::run(suite);
     orders::run(suite);
     #[cfg(feature = "jobs")]

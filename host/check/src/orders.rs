@@ -4,16 +4,17 @@
 use tunebriar::ffi::{Meter, Regs};
 
 use crate::bytes::{record, sent};
-use crate::calls::{Call, Kept, Playing};
+use crate::calls::{Call, Counting, Kept, Playing};
 use crate::suite::Suite;
 use crate::twin::Twin;
 use crate::{Checked, FULL, SIZE, same};
 
-/// The orders of a transaction and of a replay.
+/// The orders of every entry but those of jobs.
 pub fn run(suite: &mut Suite) {
     suite.check("orders/transaction", transaction);
     suite.check("orders/replay", replay);
     suite.check("orders/event", event);
+    suite.check("orders/count", count);
 }
 
 /// The numbers whose bit of `choice` is 1.
@@ -109,6 +110,22 @@ fn event(twin: &mut Twin) -> Checked {
             &twin.power_cycle(part, regs)?.number,
             &due.first(),
         )?;
+    }
+    Ok(())
+}
+
+fn count(twin: &mut Twin) -> Checked {
+    for due in Due::every(&[1, 7]) {
+        let (part, meter) = (if due.is(1) { 257 } else { 1 }, kept(&due).meter);
+        for (number, op) in [(0, 0x02), (0, 0x01), (12, 0), (6, 0), (0, 0x06)] {
+            let call = Counting {
+                part,
+                meter,
+                number,
+                op,
+            };
+            same("count", &twin.count(call)?.0, &due.first())?;
+        }
     }
     Ok(())
 }

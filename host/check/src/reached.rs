@@ -1,6 +1,8 @@
 //! What the calls have reached: a comparison that never met a number says
 //! nothing about it.
 
+use second::Meter;
+
 /// The entries of the C interface.
 #[derive(Clone, Copy, Debug, PartialEq, Eq)]
 pub enum Entry {
@@ -10,6 +12,8 @@ pub enum Entry {
     Finish,
     /// `tb_power_cycle`
     PowerCycle,
+    /// `tb_count`
+    Count,
     /// `tb_replay`
     Replay,
     /// `tb_replay_first`
@@ -25,13 +29,14 @@ pub enum Entry {
 /// An entry, and every number that it can answer.
 type Row = (Entry, &'static [u32]);
 
-const CHIP: [Row; 6] = [
+const CHIP: [Row; 7] = [
     (
         Entry::Transact,
         &[0, 10, 11, 12, 13, 14, 15, 16, 1, 2, 3, 4, 5, 6, 7],
     ),
     (Entry::Finish, &[0, 1, 3]),
     (Entry::PowerCycle, &[0, 1, 3]),
+    (Entry::Count, &[0, 1, 7]),
     (Entry::Replay, &[0, 1, 2, 3, 30, 31, 7]),
     (Entry::ReplayFirst, &[0, 1, 2, 3, 30, 31, 7]),
     (Entry::Read, &[0, 30, 31]),
@@ -50,20 +55,28 @@ const CODES: [u8; 17] = [
 
 const KINDS: [&str; 5] = ["transaction", "finish", "power cycle", "end", "fault"];
 
+/// The counts of a meter; `tb_count` must raise each at least once.
+const COUNTS: [&str; 4] = ["programs", "erases", "writes", "ignored"];
+
+/// How many entries there are.
+const ENTRIES: usize = 9;
+
 /// How often each number of each entry was answered, and a little more.
 #[derive(Clone, Debug)]
 pub struct Reached {
-    numbers: [[u64; 32]; 8],
+    numbers: [[u64; 32]; ENTRIES],
     carried_out: [u64; 256],
     kinds: [u64; 5],
+    raised: [u64; 4],
 }
 
 impl Default for Reached {
     fn default() -> Reached {
         Reached {
-            numbers: [[0; 32]; 8],
+            numbers: [[0; 32]; ENTRIES],
             carried_out: [0; 256],
             kinds: [0; 5],
+            raised: [0; 4],
         }
     }
 }
@@ -85,6 +98,14 @@ impl Reached {
     pub fn read(&mut self, kind: u32) {
         if let Some(count) = self.kinds.get_mut(kind as usize) {
             *count += 1;
+        }
+    }
+
+    /// The meter before a count and after it.
+    pub fn counted(&mut self, before: Meter, after: Meter) {
+        let pairs = counts(before).into_iter().zip(counts(after));
+        for (raised, (before, after)) in self.raised.iter_mut().zip(pairs) {
+            *raised += u64::from(before != after);
         }
     }
 
@@ -111,8 +132,14 @@ impl Reached {
         goals.extend(CODES.map(|code| (format!("carried out {code:02X}"), carried(code))));
         let kinds = KINDS.iter().zip(self.kinds);
         goals.extend(kinds.map(|(kind, count)| (format!("read {kind}"), count)));
+        let raised = COUNTS.iter().zip(self.raised);
+        goals.extend(raised.map(|(name, count)| (format!("Count raised {name}"), count)));
         goals
     }
+}
+
+fn counts(meter: Meter) -> [u32; 4] {
+    [meter.programs, meter.erases, meter.writes, meter.ignored]
 }
 
 #[cfg(test)]
@@ -133,5 +160,19 @@ mod tests {
             .collect();
         assert_eq!(met, [("Replay 31".to_string(), 1)]);
         assert_eq!(reached.calls(Entry::Replay), 1);
+    }
+
+    #[test]
+    fn a_count_is_raised_where_it_has_changed() {
+        let mut reached = Reached::default();
+        let (before, mut after) = (Meter::default(), Meter::default());
+        reached.counted(before, after);
+        assert_eq!(reached.raised, [0; 4]);
+        (after.erases, after.ignored) = (1, 1);
+        reached.counted(before, after);
+        assert_eq!(reached.raised, [0, 1, 0, 1]);
+        let goals = reached.goals(false);
+        assert!(goals.contains(&("Count raised writes".to_string(), 0)));
+        assert!(goals.contains(&("Count raised ignored".to_string(), 1)));
     }
 }

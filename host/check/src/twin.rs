@@ -4,7 +4,7 @@
 use tunebriar::ffi::{self, Numbers};
 
 use crate::bytes::{RECORD, aim, hex};
-use crate::calls::{Call, Kept, Playing, meter_of, record_of, regs_of};
+use crate::calls::{Call, Counting, Kept, Playing, lent_meter, meter_of, record_of, regs_of};
 #[cfg(feature = "jobs")]
 use crate::calls::{Job, bill_of};
 use crate::guarded::Guarded;
@@ -15,6 +15,13 @@ use crate::{Checked, SIZE, same};
 /// How many calls pass between two comparisons of the whole array, unless told
 /// otherwise. What a call is aimed at is compared after every call.
 const WHOLE_EVERY: u64 = 4_096;
+/// What lies before and after a lent meter, and must stay.
+const GUARD: ffi::Meter = ffi::Meter {
+    programs: 0x5A5A_5A5A,
+    erases: 0xA5A5_A5A5,
+    writes: 0x3C3C_3C3C,
+    ignored: 0xC3C3_C3C3,
+};
 
 /// The two of them.
 #[derive(Debug)]
@@ -122,6 +129,7 @@ impl Twin {
                 .carried_out(call.bytes.first().copied().unwrap_or(0));
         }
         self.answers(Entry::Transact, first, second)?;
+        self.recount(call, first)?;
         self.outputs()?;
         self.touched(&call.bytes, second.number == 0)?;
         self.now_and_then()?;
@@ -140,6 +148,46 @@ impl Twin {
         let (regs, meter) = (regs_of(regs), meter_of(meter));
         let out = &mut self.mirror;
         second::transact(part, regs, meter, leftover, wp, array, out, &call.bytes)
+    }
+
+    /// The meter handed in, brought up to date by what was answered, is the
+    /// meter answered.
+    fn recount(&mut self, call: &Call, answer: ffi::Answer) -> Checked {
+        let Numbers { part, meter, .. } = call.numbers;
+        // Where no byte was sent, one that would count must not.
+        let op = call.bytes.first().map_or(0x02, |&byte| u32::from(byte));
+        let (_, counted) = self.count(Counting {
+            part,
+            meter,
+            number: answer.number,
+            op,
+        })?;
+        same("counted by the answer", &counted, &answer.meter)
+    }
+
+    /// A meter by itself, brought up to date by both: the number and the meter
+    /// afterwards.
+    ///
+    /// # Errors
+    ///
+    /// Where the two differ in anything, or the first writes beside the meter.
+    pub fn count(&mut self, call: Counting) -> Checked<(u32, ffi::Meter)> {
+        let Counting {
+            part,
+            meter,
+            number,
+            op,
+        } = call;
+        let mut lent = [GUARD, meter, GUARD];
+        let first = ffi::count(part, &mut lent[1], number, op);
+        let (before, mut mirror) = (meter_of(meter), meter_of(meter));
+        let second = second::count(part, &mut mirror, number, op);
+        self.reached.answered(Entry::Count, second);
+        self.reached.counted(before, mirror);
+        let expected = (second, [GUARD, lent_meter(mirror), GUARD]);
+        let found = same("number, meter between guards", &(first, lent), &expected);
+        found.map_err(|found| format!("{found}\n  {call}"))?;
+        Ok((first, lent[1]))
     }
 
     /// A finish event by both.

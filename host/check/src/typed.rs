@@ -3,6 +3,7 @@
 use tunebriar::{Meter, Part, Read, Record, Refusal, Registers, State, Transaction, Verdict, ffi};
 
 use crate::batches::Plan;
+use crate::calls::meter_of;
 use crate::generate::{self, Sent};
 use crate::rng::Rng;
 use crate::twin::Twin;
@@ -47,21 +48,27 @@ fn untyped(registers: Registers) -> second::Regs {
     }
 }
 
+fn typed_meter(meter: ffi::Meter) -> Meter {
+    Meter {
+        programs: meter.programs,
+        erases: meter.erases,
+        register_writes: meter.writes,
+        ignored: meter.ignored,
+    }
+}
+
+fn untyped_meter(meter: Meter) -> second::Meter {
+    second::Meter {
+        programs: meter.programs,
+        erases: meter.erases,
+        writes: meter.register_writes,
+        ignored: meter.ignored,
+    }
+}
+
 /// The same state as the second has it.
 fn taken(state: State) -> (second::Regs, second::Meter) {
-    let Meter {
-        programs,
-        erases,
-        register_writes,
-        ignored,
-    } = state.meter;
-    let meter = second::Meter {
-        programs,
-        erases,
-        writes: register_writes,
-        ignored,
-    };
-    (untyped(state.registers), meter)
+    (untyped(state.registers), untyped_meter(state.meter))
 }
 
 fn told(refusal: Refusal) -> (u32, u64) {
@@ -99,11 +106,29 @@ fn transaction(twin: &mut Twin, rng: &mut Rng, state: State) -> Checked<State> {
     let (bits, wp) = (sent.leftover, sent.wp);
     let expected = second::transact(1, regs, meter, bits, wp, second, &mut mirror, &sent.bytes);
     same("output", &out, &mirror)?;
-    if let Ok((verdict, _)) = got {
+    if let Ok((verdict, after)) = got {
         let numbers = (expected.number, expected.code);
         same("verdict", &(verdict.number(), code(verdict)), &numbers)?;
+        let mut counted = state.meter;
+        same("count", &counted.count(PART, verdict), &Ok(()))?;
+        same("counted by the verdict", &counted, &after.meter)?;
+        count(rng, verdict)?;
     }
     after(state, got.map(|(_, state)| state), expected)
+}
+
+/// A verdict counted on any meter, also a full one.
+fn count(rng: &mut Rng, verdict: Verdict) -> Checked {
+    let before = generate::meter(rng);
+    let mut expected = meter_of(before);
+    let number = second::count(1, &mut expected, verdict.number(), code(verdict));
+    let mut counted = typed_meter(before);
+    let got = counted.count(PART, verdict).err().map_or((0, 0), told);
+    same(
+        "count",
+        &(got, untyped_meter(counted)),
+        &((number, 0), expected),
+    )
 }
 
 fn lent(sent: &Sent) -> Transaction<'_> {

@@ -3,12 +3,13 @@
 //! The bill comes from the library's replay. What is counted here beside it,
 //! by verdict, comes from the library's transactions on the same records; both
 //! must end at the same array, registers and meter, or nothing is told at all.
+//! So must the library's count of the verdicts alone: what is told is billed.
 
 use crate::chip::{Chip, PART};
 use std::collections::BTreeMap;
 use tunebriar::{
-    Kind, Read, Reader, Reason, Record, Refusal, State, Transaction, Verdict, finish, power_cycle,
-    replay_first, transact,
+    Kind, Meter, Read, Reader, Reason, Record, Refusal, State, Transaction, Verdict, finish,
+    power_cycle, replay_first, transact,
 };
 
 /// What a transaction asked for, as the bill sees it.
@@ -111,6 +112,12 @@ impl Tally {
     }
 }
 
+/// What is told so far, and the meter that its verdicts alone come to.
+struct Told {
+    tally: Tally,
+    meter: Meter,
+}
+
 /// Plays the first `k` records of a tape, after every check of the whole tape,
 /// and says what became of each.
 ///
@@ -125,41 +132,45 @@ impl Tally {
 pub fn play(chip: &mut Chip, tape: &[u8], k: u64) -> Result<Tally, Refusal> {
     let mut played = chip.array.clone();
     let after = replay_first(PART, chip.state, &mut played, tape, k)?;
-    let mut tally = Tally::default();
+    let mut told = Told {
+        tally: Tally::default(),
+        meter: chip.state.meter,
+    };
     let mut reader = Reader::new(tape);
     while reader.place() < k {
         let Read::Record(record) = reader.read() else {
             break;
         };
-        chip.state = step(chip, record, &mut tally)?;
+        chip.state = step(chip, record, &mut told)?;
     }
     assert!(
-        chip.state == after && chip.array == played,
+        chip.state == after && chip.array == played && told.meter == after.meter,
         "the replay and its records do not agree: nothing is told"
     );
-    Ok(tally)
+    Ok(told.tally)
 }
 
-fn step(chip: &mut Chip, record: Record, tally: &mut Tally) -> Result<State, Refusal> {
+fn step(chip: &mut Chip, record: Record, told: &mut Told) -> Result<State, Refusal> {
     let State { registers, meter } = chip.state;
     let registers = match record {
-        Record::Transaction(sent) => return sending(chip, sent, tally),
+        Record::Transaction(sent) => return sending(chip, sent, told),
         Record::Finish => {
-            tally.finishes += 1;
+            told.tally.finishes += 1;
             finish(PART, registers)?
         }
         Record::PowerCycle => {
-            tally.power_cycles += 1;
+            told.tally.power_cycles += 1;
             power_cycle(PART, registers)?
         }
     };
     Ok(State { registers, meter })
 }
 
-fn sending(chip: &mut Chip, sent: Transaction, tally: &mut Tally) -> Result<State, Refusal> {
+fn sending(chip: &mut Chip, sent: Transaction, told: &mut Told) -> Result<State, Refusal> {
     // A record has 260 bytes at the most.
     let mut out = [0; tunebriar::RECORD];
     let (verdict, state) = transact(PART, chip.state, sent, &mut chip.array, &mut out)?;
-    tally.count(sent.bytes, verdict);
+    told.tally.count(sent.bytes, verdict);
+    told.meter.count(PART, verdict)?;
     Ok(state)
 }

@@ -11,6 +11,7 @@
 
 mod bus;
 mod command;
+mod counting;
 mod geometry;
 mod job;
 mod listing;
@@ -19,6 +20,7 @@ mod protect;
 mod status;
 mod tape;
 
+pub use counting::count;
 pub use job::{quote, translate};
 pub use listing::listing;
 pub use meaning::{meaning, meaning_on_registers};

@@ -4,8 +4,9 @@
 //! Each function here is safe: what the header asks of a caller's pointers is
 //! kept by [`Lent`] and [`LentMut`], which are made from slices or are null
 //! with length 0, and by Rust's rule that what is lent to be written is lent
-//! once. Any number may be handed in; use the typed functions of the crate
-//! unless wild numbers are what you want.
+//! once. A lent meter is a `&mut`, so it is never null. Any number may be handed
+//! in; use the typed functions of the crate unless wild numbers are what you
+//! want.
 
 use core::marker::PhantomData;
 use core::ptr;
@@ -183,6 +184,7 @@ unsafe extern "C" {
     ) -> Answer;
     safe fn tb_finish(part: u32, regs: Regs) -> Event;
     safe fn tb_power_cycle(part: u32, regs: Regs) -> Event;
+    safe fn tb_count(part: u32, meter: &mut Meter, number: u32, op: u32) -> u32;
     fn tb_replay(
         part: u32,
         regs: Regs,
@@ -274,6 +276,12 @@ pub fn power_cycle(part: u32, regs: Regs) -> Event {
     tb_power_cycle(part, regs)
 }
 
+/// `tb_count`: 0 or a refusal, and `meter` brought up to date where it lies.
+#[must_use]
+pub fn count(part: u32, meter: &mut Meter, number: u32, op: u32) -> u32 {
+    tb_count(part, meter, number, op)
+}
+
 /// `tb_replay`.
 #[must_use]
 pub fn replay(part: u32, regs: Regs, meter: Meter, array: LentMut, tape: Lent) -> Answer {
@@ -362,9 +370,11 @@ pub fn read(tape: Lent, place: u64) -> Record {
 /// The sizes and places that `tests/c/layout.c` asks of the header, so that the
 /// two declarations cannot drift apart unseen.
 const _: () = {
-    use core::mem::{offset_of, size_of};
+    use core::mem::{align_of, offset_of, size_of};
     assert!(size_of::<Regs>() == 8 && offset_of!(Regs, awake) == 4);
     assert!(size_of::<Meter>() == 16 && offset_of!(Meter, ignored) == 12);
+    assert!(offset_of!(Meter, erases) == 4 && offset_of!(Meter, writes) == 8);
+    assert!(align_of::<Meter>() == 4);
     assert!(size_of::<Answer>() == 40 && offset_of!(Answer, index) == 8);
     assert!(offset_of!(Answer, regs) == 16 && offset_of!(Answer, meter) == 24);
     assert!(size_of::<Event>() == 24 && offset_of!(Event, regs) == 16);

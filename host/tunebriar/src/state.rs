@@ -1,6 +1,6 @@
 //! What a caller keeps between two calls.
 
-use crate::ffi;
+use crate::{Refusal, Verdict, ffi};
 
 /// A chip that the library knows, with its part number.
 #[derive(Clone, Copy, Debug, PartialEq, Eq)]
@@ -102,6 +102,38 @@ pub struct Meter {
 }
 
 impl Meter {
+    /// Brings the meter up to date where it lies, by what became of a
+    /// transaction. A refused one has no verdict, and counts nothing.
+    ///
+    /// # Errors
+    ///
+    /// Refusals 1 and 7; then the meter is as it was.
+    ///
+    /// ```
+    /// use tunebriar::{Kind, Meter, Part, SIZE, State, Transaction, Verdict, transact};
+    ///
+    /// let (mut array, mut out) = (vec![0xFF; SIZE], [0; 1]);
+    /// let (before, sent) = (State::default(), Transaction::of(&[0xC7]));
+    /// let (verdict, after) = transact(Part::Fm25q16, before, sent, &mut array, &mut out)?;
+    /// let mut meter = before.meter;
+    /// meter.count(Part::Fm25q16, verdict)?;
+    /// assert_eq!((meter, meter.ignored), (after.meter, 1));
+    ///
+    /// meter.count(Part::Fm25q16, Verdict::CarriedOut(Kind::EraseAll))?;
+    /// assert_eq!((meter.erases, meter.ignored), (1, 1));
+    ///
+    /// let mut full = Meter { programs: u32::MAX, ..meter };
+    /// assert_eq!(full.count(Part::Fm25q16, verdict).unwrap_err().number(), 7);
+    /// assert_eq!(full.ignored, 1);
+    /// # Ok::<(), tunebriar::Refusal>(())
+    /// ```
+    pub fn count(&mut self, part: Part, verdict: Verdict) -> Result<(), Refusal> {
+        let mut lent = self.lent();
+        let number = ffi::count(part.number(), &mut lent, verdict.number(), verdict.op());
+        *self = Meter::answered(lent);
+        Refusal::of(number, 0)
+    }
+
     pub(crate) fn lent(self) -> ffi::Meter {
         ffi::Meter {
             programs: self.programs,

@@ -19,6 +19,14 @@ impl Verdict {
         }
     }
 
+    /// The first byte, as far as it counts: an ignored one may be any.
+    pub(crate) fn op(self) -> u32 {
+        match self {
+            Verdict::CarriedOut(kind) => u32::from(kind.code()),
+            Verdict::Ignored(_) => 0,
+        }
+    }
+
     /// The library answers a number; the kind follows from the first byte.
     ///
     /// # Panics

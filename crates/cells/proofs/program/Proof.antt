@@ -27,7 +27,7 @@ same-length c = search needs
 returns : tie.Need-returns
 returns c =
     let a = c .before .before .before .before .before .before .before .args in
-    unwrapped (a .page .now) _ (a .off) (a .bytes .now) (omega arith) (omega arith) (c .before .before .and-in .ensures)
+    unwrapped (a .s .now) _ (a .off) (a .bytes .now) (omega arith) (omega arith) (c .before .before .and-in .ensures)
 
 latch-requires : tie.Need-latch-requires
 latch-requires c κs = search needs
@@ -46,7 +46,7 @@ returns-2 c =
     let k = c .before .before .before .before .before .before .before .before in
     let a = k .before .args in
     c .before .before .and-in2 .ensures
-    ∙ latched (a .page .now) _ (a .off) (a .bytes .now) (λ j. omega (arith, k .slice-known .given j)) (omega arith)
+    ∙ latched (a .s .now) _ (a .off) (a .bytes .now) (λ j. omega (arith, k .slice-known .given j)) (omega arith)
     (c .before .before .before .before .before .latch .ensures)
 
 pub program-spec : {M : Type 1} → statement M

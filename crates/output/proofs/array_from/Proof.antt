@@ -2,9 +2,7 @@ use Rattle.lists.specs.Places.{tabulate}
 use borrow.Rule.Slice.PartMut.{mid-len}
 use lib.ListN.{length, getD}
 use Rattle.output.proofs.From.{from-lent, from-none}
-use Rattle.laws.proofs.Sound.{part-sound, size-small}
 use Rattle.rules.specs.Transaction.{fromPlace, arrayFrom}
-use Rattle.rules.specs.Parts.{partOf}
 use Prim.Native.Nat.{ℕ, _+_, _%_}
 use mathlib.Core.Path.{_≡_, ap, _∙_}
 use native.Mathlib.Omega.{arith}
@@ -33,12 +31,10 @@ part-copy-wrapped-end c = search needs
 copy-wrapped-requires : tie.Need-copy-wrapped-requires
 copy-wrapped-requires c κs =
     let s = c .before .before .before .before .before .before .before .before in
-    let p = partOf (s .args .part) in
-    let h = size-small p (part-sound (s .args .part)) in
     let xs = c .before .before .before .before .fill .last .0 in
     let l : length xs ≡ length (s .args .out .now) = c .before .before .before .before .fill .kept .0 in
     let m = mid-len (s .args .k) (length xs) xs (omega arith) in
-    (omega (arith, s .pre .0, s .pre .1), omega (arith, s .pre .0, s .pre .2), omega (arith, s .pre .0))
+    (omega (arith, s .pre .0, s .pre .1), omega (arith, s .pre .0, s .pre .2))
 
 same-length-2 : tie.Need-same-length-2
 same-length-2 c = search needs

@@ -1,6 +1,6 @@
 //! A host that lends the chip an array, and builders for jobs and tapes.
 
-use second::{Answer, Meter, Regs, Tape, transact, translate};
+use second::{Answer, Meter, Regs, Tape, count, transact, translate};
 
 pub const SIZE: usize = 2_097_152;
 pub const FULL: u32 = 4_294_967_295;
@@ -37,7 +37,8 @@ impl Host {
         host
     }
 
-    /// One transaction with an output of exactly its size.
+    /// One transaction with an output of exactly its size; counting by its
+    /// answer must come to the same meter.
     pub fn send(&mut self, bytes: &[u8]) -> Answer {
         self.out = vec![0x55; bytes.len()];
         let answer = transact(
@@ -50,6 +51,10 @@ impl Host {
             &mut self.out,
             bytes,
         );
+        // Where no byte was sent, one that would count must not.
+        let op = bytes.first().map_or(0x02, |&byte| u32::from(byte));
+        count(self.part, &mut self.meter, answer.number, op);
+        assert_eq!(self.meter, answer.meter, "{} {op:02X}", answer.number);
         self.regs = answer.regs;
         self.meter = answer.meter;
         answer

@@ -3,6 +3,7 @@
 mod bench;
 mod boundaries;
 mod common;
+mod counting;
 mod jobs;
 mod oracle;
 mod protection;

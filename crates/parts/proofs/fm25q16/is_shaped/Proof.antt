@@ -27,8 +27,8 @@ or-more-requires-3 c κs = search needs
 or-more-requires-4 : tie.Need-or-more-requires-4
 or-more-requires-4 c κs = search needs
 
-program-shape-requires : tie.Need-program-shape-requires
-program-shape-requires c κs = search needs
+five-or-more-requires : tie.Need-five-or-more-requires
+five-or-more-requires c κs = search needs
 
 exactly-requires-3 : tie.Need-exactly-requires-3
 exactly-requires-3 c κs = search needs
@@ -87,7 +87,7 @@ returns-7 c = rw (c .before .match .keys7) (c .or-more4 .ensures)
 
 returns-8 : tie.Need-returns-8
 unfolding shapedIn takes leaves fmCommands if_then_else_
-returns-8 c = rw (c .before .match .keys8) (c .program-shape .ensures)
+returns-8 c = rw (c .before .match .keys8) (c .five-or-more .ensures)
 
 returns-9 : tie.Need-returns-9
 unfolding shapedIn takes leaves fmCommands if_then_else_
@@ -160,7 +160,7 @@ is-shaped-spec =
     two-or-three-requires
     or-more-requires-3
     or-more-requires-4
-    program-shape-requires
+    five-or-more-requires
     exactly-requires-3
     exactly-requires-4
     exactly-requires-5

@@ -8,8 +8,8 @@ use Rattle.lists.proofs.Choice.{if-true, if-false}
 use Rattle.lists.specs.Choice.{if_then_else_, _=?_}
 use Rattle.lists.proofs.Front.{Front, front-none, front-more, front-all}
 use borrow.Author.Needs.{needs}
-use Rattle.cells.proofs.alternate.Statement.{statement}
-use Rattle.cells.proofs.alternate.Tie as tie
+use Rattle.cells.proofs.in_turn.Statement.{statement}
+use Rattle.cells.proofs.in_turn.Tie as tie
 
 abbrev Inv-loop : tie.InvT-loop
 Inv-loop s₀ first second i₀ s i = Front (λ j. if j % 2 =? 0 then first else second) s₀ s i
@@ -44,8 +44,8 @@ same-length c = search needs
 returns : tie.Need-returns Inv-loop μ-loop
 returns c = front-all _ _ _ _ (c .before .loop .inv) (omega arith)
 
-pub alternate-spec : {M : Type 1} → statement M
-alternate-spec =
+pub in-turn-spec : {M : Type 1} → statement M
+in-turn-spec =
     tie.close
     (tie.spec
     Inv-loop
