@@ -5,7 +5,7 @@ use tunebriar::ffi::Meter;
 
 use crate::batches::Plan;
 use crate::calls::Counting;
-use crate::edges::{OTHER_PARTS, one_count};
+use crate::edges::{OTHER_PARTS, counts, one_count};
 use crate::generate;
 use crate::rng::Rng;
 use crate::suite::Suite;
@@ -71,15 +71,9 @@ fn counting(meter: Meter, (number, op): (u32, u32)) -> Counting {
 
 /// [`SOME`] with one more at one of its counts.
 fn one_more(which: usize) -> Meter {
-    let mut counts = [SOME.programs, SOME.erases, SOME.writes, SOME.ignored];
-    counts[which] += 1;
-    let [programs, erases, writes, ignored] = counts;
-    Meter {
-        programs,
-        erases,
-        writes,
-        ignored,
-    }
+    let mut all = [SOME.programs, SOME.erases, SOME.writes, SOME.ignored];
+    all[which] += 1;
+    counts(all)
 }
 
 fn accepted(twin: &mut Twin) -> Checked {

@@ -48,10 +48,8 @@ fn expect(twin: &mut Twin, call: &Call, number: u32) -> Checked<second::Answer> 
     Ok(answer)
 }
 
-/// Four counts, all 5 but for the one at `which`.
-pub(crate) fn one_count(which: usize, count: u32) -> Meter {
-    let mut counts = [5; 4];
-    counts[which] = count;
+/// Four counts, in the meter's order.
+pub(crate) fn counts(counts: [u32; 4]) -> Meter {
     let [programs, erases, writes, ignored] = counts;
     Meter {
         programs,
@@ -59,6 +57,13 @@ pub(crate) fn one_count(which: usize, count: u32) -> Meter {
         writes,
         ignored,
     }
+}
+
+/// Four counts, all 5 but for the one at `which`.
+pub(crate) fn one_count(which: usize, count: u32) -> Meter {
+    let mut all = [5; 4];
+    all[which] = count;
+    counts(all)
 }
 
 fn longest(twin: &mut Twin) -> Checked {

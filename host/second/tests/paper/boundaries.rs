@@ -31,14 +31,8 @@ fn any_full_count_refuses_any_transaction() {
         for (count, number) in [(FULL, 7), (FULL - 1, 0)] {
             let mut counts = [5; 4];
             counts[k] = count;
-            let [programs, erases, writes, ignored] = counts;
             let mut host = Host::new(0);
-            host.meter = Meter {
-                programs,
-                erases,
-                writes,
-                ignored,
-            };
+            host.meter = meter(counts);
             let before = host.meter;
             assert_eq!(host.verdict(&[0x05]), number);
             assert_eq!(host.meter, before);

@@ -163,3 +163,14 @@ impl Rng {
         chosen % SIZE as u32
     }
 }
+
+/// Four counts, in the meter's order.
+pub fn meter(counts: [u32; 4]) -> Meter {
+    let [programs, erases, writes, ignored] = counts;
+    Meter {
+        programs,
+        erases,
+        writes,
+        ignored,
+    }
+}

@@ -6,16 +6,6 @@ use second::{Meter, count};
 
 const SOME: [u32; 4] = [11, 22, 33, 44];
 
-fn meter(counts: [u32; 4]) -> Meter {
-    let [programs, erases, writes, ignored] = counts;
-    Meter {
-        programs,
-        erases,
-        writes,
-        ignored,
-    }
-}
-
 /// The place of the count that is one more, by the paper.
 fn raised(number: u32, op: u32) -> Option<usize> {
     match (number, op) {
