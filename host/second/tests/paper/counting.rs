@@ -2,7 +2,7 @@
 //! the two refusals. That it agrees with every transaction, `Host::send` asks.
 
 use crate::common::*;
-use second::{Meter, count};
+use second::count;
 
 const SOME: [u32; 4] = [11, 22, 33, 44];
 
