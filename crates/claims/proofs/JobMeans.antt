@@ -27,7 +27,7 @@ use Rattle.rules.specs.JobRefusals.{jobRefusal}
 use Rattle.rules.specs.Records.{jobRecs, billOf}
 use Rattle.rules.specs.Translate.{tapeOf, translateRefusal, TranslateSeen, translateTold, translateSeen, translateBy, translateOf, quoteTold, quoteBy, quoteOf}
 use Rattle.rules.specs.Ready.{Ready, Roomy}
-use Rattle.laws.proofs.Accepted.{passed}
+use Rattle.laws.proofs.Accepted.{passed, neither}
 use Rattle.claims.specs.Means.{tapeWritten, figures, Means}
 use Rattle.tape.proofs.Encoded.{RecsOk}
 use Rattle.tape.proofs.Round.{encode-whole, encode-records, encode-recs, encode-unfaulted}
@@ -35,7 +35,7 @@ use Rattle.demand.specs.Raised.{raised}
 use Rattle.demand.specs.Ignored.{ignoredIn}
 use Rattle.demand.proofs.Demand3.{afterJob}
 use Rattle.demand.proofs.JobPlayed.{job-played, job-none-ignored}
-use Rattle.replay.proofs.Checked.{neither, replay-served}
+use Rattle.replay.proofs.Checked.{replay-served}
 use Rattle.translate.proofs.Whole.{job-ok, tape-long}
 
 -- a tape that is served is the job's tape

@@ -5,16 +5,16 @@ use mathlib.Core.List.{List, [], _∷_}
 use Prim.Native.Nat.{ℕ, zero, suc, _+_, _*_, _≤_, _<_}
 use native.Mathlib.Omega.{arith}
 use lib.ListN.{getD}
-use borrow.Author.Tests.{leb-true, eqb-true}
+use borrow.Author.Tests.{leb-true}
 use Rattle.lists.specs.Choice.{if_then_else_, _≤?_}
 use Rattle.lists.proofs.Choice.{both-true}
 use Rattle.rules.specs.declared.Step.{Step}
 use Rattle.rules.specs.declared.Step.the-variants.{Guard}
 use Rattle.rules.specs.declared.Decoded.{Decoded}
 use Rattle.rules.specs.declared.Decoded.the-variants.{Good, Bad}
-use Rattle.rules.specs.declared.Refusal.{Refusal}
 use Rattle.rules.specs.Part.{Part}
-use Rattle.rules.specs.Refusals.{refusalAt, accepted, _orElse_}
+use Rattle.rules.specs.Refusals.{refusalAt}
+use Rattle.laws.proofs.Accepted.{neither}
 use Rattle.rules.specs.Job.{stepLength, settingLimit, zeros, eraseAt, layAt, guardAt, decodedAt, stepAt, withStep, stepsFrom, settingMeant}
 use Rattle.rules.specs.JobRefusals.{outside, beyond, shielded, stepNumber, decodedNumber, settingAfter, stepsRefusal}
 
@@ -60,14 +60,6 @@ decoded-known job a =
 
 -- ---- "each step in order for 22 to 25"
 
-or-else-none : (z y : Refusal) → (z orElse y) .number ≡ 0 → (z .number ≡ 0) × (y .number ≡ 0)
-unfolding _orElse_ if_then_else_
-or-else-none z y e = go (accepted z) refl e
-  where
-    go : (t : Bool) → accepted z ≡ t → (if t then y else z) .number ≡ 0 → (z .number ≡ 0) × (y .number ≡ 0)
-    go true f g = (eqb-true (z .number) 0 f, g)
-    go false f g = (g, absurd (let n : accepted z ≡ true = rw g in let u : _≡_ {A = ℕ} 0 1 = cc in omega arith))
-
 not-refused : (t : Bool) (k n : ℕ) → 0 < k → (if t then k else n) ≡ 0 → (t ≡ false) × (n ≡ 0)
 unfolding if_then_else_
 not-refused true k n h e = absurd (omega arith)
@@ -85,7 +77,7 @@ pub job-ok : (p : Part) (s n : ℕ) (job : List ℕ) (i k : ℕ) → stepsRefusa
 unfolding stepsRefusal stepsFrom
 job-ok p s n job i zero e = none
 job-ok p s n job i (suc k) e =
-    let q = or-else-none (refusalAt (decodedNumber p s n (stepAt job i)) i) (stepsRefusal p (settingAfter s (stepAt job i)) n job (suc i) k) e in
+    let q = neither (refusalAt (decodedNumber p s n (stepAt job i)) i) (stepsRefusal p (settingAfter s (stepAt job i)) n job (suc i) k) e in
     let ih = job-ok p (settingAfter s (stepAt job i)) n job (suc i) k (q .1) in
     go (stepAt job i) (decoded-known job (stepLength * i)) (q .0) ih
   where

@@ -6,7 +6,6 @@ use mathlib.Core.Logic.{⊎-elim}
 use Prim.Native.Nat.{ℕ, zero, suc, _+_, _%_, _≤_, _<_}
 use native.Mathlib.Omega.{arith}
 use native.Mathlib.Nat.{eq-or-lt-of-le}
-use lib.Dec.{eqb}
 use lib.ListN.{length}
 use borrow.Author.Tests.{eqb-true, ltb-false, not-false}
 use Rattle.lists.specs.Choice.{if_then_else_, _=?_, _<?_}
@@ -18,14 +17,13 @@ use Rattle.rules.specs.declared.Step.{Step}
 use Rattle.rules.specs.declared.Step.the-variants.{Lay}
 use Rattle.rules.specs.declared.Decoded.{Decoded}
 use Rattle.rules.specs.declared.Decoded.the-variants.{Good, Bad}
-use Rattle.rules.specs.declared.Refusal.{Refusal}
 use Rattle.rules.specs.Part.{Part}
 use Rattle.rules.specs.Parts.{isPart, partOf}
 use Rattle.rules.specs.Job.{stepLength, settingLimit, stepAt, stepCount}
-use Rattle.rules.specs.Refusals.{refusalAt, _orElse_}
+use Rattle.rules.specs.Refusals.{refusalAt}
 use Rattle.rules.specs.JobRefusals.{jobLimit, payloadLimit, unfit, outside, beyond, stepStart, stepReach, some, shielded, stepNumber, decodedNumber, settingAfter, stepsRefusal, jobRefusal}
 use Rattle.rules.specs.Protection.{firstProtected}
-use Rattle.laws.proofs.Accepted.{passed}
+use Rattle.laws.proofs.Accepted.{passed, neither}
 use Rattle.laws.proofs.Sound.{part-sound, size-small}
 use Rattle.job.specs.Carried.{settingAt}
 use Rattle.job.specs.Counted.{Billable, Counted}
@@ -82,21 +80,13 @@ decoded-passed p s pl (Good w) e =
     record { step = w; good = refl; inside = a .0; within = b .0; bare = c .0 }
 decoded-passed p s pl Bad e = absurd (omega arith)
 
-none-else : (z y : Refusal) → (z orElse y) .number ≡ 0 → (z .number ≡ 0) × (y .number ≡ 0)
-unfolding _orElse_ if_then_else_
-none-else z y e = go (eqb (z .number) 0) refl e
-  where
-    go : (t : Bool) → eqb (z .number) 0 ≡ t → (if t then y else z) .number ≡ 0 → (z .number ≡ 0) × (y .number ≡ 0)
-    go true q h = (eqb-true (z .number) 0 q, h)
-    go false q h = let w : _≡_ {A = Bool} true false = rw h at q in let n : _≡_ {A = ℕ} 0 1 = cc in absurd (omega arith)
-
 module _ (p : Part) (pl : ℕ) (job : List ℕ) where
   -- the first of the steps that are left, and those after it
   pub steps-next : (s i n : ℕ) → stepsRefusal p s pl job i (suc n) .number ≡ 0
       → Passed p s pl (stepAt job i) × (stepsRefusal p (settingAfter s (stepAt job i)) pl job (suc i) n .number ≡ 0)
   unfolding stepsRefusal
   steps-next s i n e =
-      let h = none-else (refusalAt (decodedNumber p s pl (stepAt job i)) i) (stepsRefusal p (settingAfter s (stepAt job i)) pl job (suc i) n) e in
+      let h = neither (refusalAt (decodedNumber p s pl (stepAt job i)) i) (stepsRefusal p (settingAfter s (stepAt job i)) pl job (suc i) n) e in
       (decoded-passed p s pl (stepAt job i) (h .0), h .1)
 
   each : (s i n : ℕ) → stepsRefusal p (settingAt job s i) pl job i n .number ≡ 0

@@ -4,8 +4,9 @@ use mathlib.Core.Bool.{Bool, true, false, not, _&&_}
 use mathlib.Core.List.{List, _++_}
 use Prim.Native.Nat.{ℕ, _+_, _≤_, _<_}
 use native.Mathlib.Omega.{arith}
+use lib.Dec.{eqb}
 use lib.ListN.{length}
-use borrow.Author.Tests.{ltb-false, eqb-true, leb-true, not-false, ne-eqb, eq-eqb}
+use borrow.Author.Tests.{ltb-false, eqb-true, eqb-false, leb-true, not-false, ne-eqb, eq-eqb}
 use Rattle.lists.specs.Choice.{if_then_else_, _=?_, _<?_, _≤?_}
 use Rattle.lists.proofs.Choice.{both-true}
 use Rattle.rules.specs.declared.Kept.{Kept}
@@ -14,7 +15,7 @@ use Rattle.rules.specs.declared.Refusal.{Refusal}
 use Rattle.rules.specs.Parts.{isPart, partOf}
 use Rattle.rules.specs.Status.{wellFormed}
 use Rattle.rules.specs.Counts.{countLimit, room}
-use Rattle.rules.specs.Refusals.{refusal, transactionLimit, transactRefusal, eventRefusal}
+use Rattle.rules.specs.Refusals.{refusal, _orElse_, transactionLimit, transactRefusal, eventRefusal}
 use Rattle.laws.specs.Room.{Room}
 
 -- a check that does not refuse was passed, and so were those after it
@@ -22,6 +23,15 @@ pub passed : (t : Bool) (k : ℕ) (w : Refusal) → 0 < k → (if t then refusal
 unfolding if_then_else_
 passed true k w h e = absurd (omega arith)
 passed false k w h e = (refl, e)
+
+-- where neither of two refuses
+pub neither : (z y : Refusal) → (z orElse y) .number ≡ 0 → (z .number ≡ 0) × (y .number ≡ 0)
+unfolding _orElse_ if_then_else_
+neither z y e = go (eqb (z .number) 0) refl e
+  where
+    go : (t : Bool) → eqb (z .number) 0 ≡ t → (if t then y else z) .number ≡ 0 → (z .number ≡ 0) × (y .number ≡ 0)
+    go true q e = (eqb-true (z .number) 0 q, e)
+    go false q e = absurd (eqb-false (z .number) 0 q e)
 
 pub room-is : (m : Meter) (n : ℕ) → room m n ≡ true → Room m n
 unfolding room

@@ -4,9 +4,8 @@ use mathlib.Core.Bool.{Bool, true, false, not}
 use mathlib.Core.List.{List}
 use Prim.Native.Nat.{ℕ, _≤_, _<_, min}
 use native.Mathlib.Omega.{arith}
-use lib.Dec.{eqb}
 use lib.ListN.{length, take}
-use borrow.Author.Tests.{eqb-true, not-true, not-false, ne-eqb, eqb-false}
+use borrow.Author.Tests.{eqb-true, not-false, ne-eqb}
 use Rattle.lists.specs.Choice.{if_then_else_, _=?_}
 use Rattle.lists.specs.declared.Found.{Found}
 use Rattle.lists.specs.declared.Found.the-variants.{At, Nothing}
@@ -18,22 +17,12 @@ use Rattle.rules.specs.declared.Replayed.the-variants.{Ended, Refused}
 use Rattle.rules.specs.Parts.{isPart, partOf}
 use Rattle.rules.specs.Status.{regsOf, keptOf, wellFormed}
 use Rattle.rules.specs.Counts.{room}
-use Rattle.rules.specs.Refusals.{refusal, _orElse_}
 use Rattle.rules.specs.Tape.{whole, goodRecord, firstBad, records, recsOf}
 use Rattle.rules.specs.Play.{State, state, play}
 use Rattle.rules.specs.Replay.{badRecord, recordsRefusal, replayRefusal, replayTold, replaySeen, replayServed, replayRefused, replayBy, replayFirstOf}
 use Rattle.laws.specs.Room.{Room}
-use Rattle.laws.proofs.Accepted.{passed, room-is}
+use Rattle.laws.proofs.Accepted.{passed, neither, room-is}
 use Rattle.replay.specs.Playable.{Playable}
-
--- where neither refuses
-pub neither : (z y : Refusal) → (z orElse y) .number ≡ 0 → (z .number ≡ 0) × (y .number ≡ 0)
-unfolding _orElse_ if_then_else_
-neither z y e = go (eqb (z .number) 0) refl e
-  where
-    go : (t : Bool) → eqb (z .number) 0 ≡ t → (if t then y else z) .number ≡ 0 → (z .number ≡ 0) × (y .number ≡ 0)
-    go true q e = (eqb-true (z .number) 0 q, e)
-    go false q e = absurd (eqb-false (z .number) 0 q e)
 
 none-bad : (f : Found) → badRecord f .number ≡ 0 → f ≡ Nothing
 none-bad (At i) e = absurd (omega arith)
