@@ -27,7 +27,8 @@ use Rattle.rules.specs.JobRefusals.{jobRefusal}
 use Rattle.rules.specs.Records.{jobRecs, billOf}
 use Rattle.rules.specs.Translate.{tapeOf, translateRefusal, TranslateSeen, translateTold, translateSeen, translateBy, translateOf, quoteTold, quoteBy, quoteOf}
 use Rattle.rules.specs.Ready.{Ready, Roomy}
-use Rattle.laws.proofs.Accepted.{passed, neither}
+use Rattle.laws.proofs.Accepted.{neither}
+use Rattle.laws.proofs.JobPassed.{job-passed}
 use Rattle.claims.specs.Means.{tapeWritten, figures, Means}
 use Rattle.tape.proofs.Encoded.{RecsOk}
 use Rattle.tape.proofs.Round.{encode-whole, encode-records, encode-recs, encode-unfaulted}
@@ -78,8 +79,7 @@ module _ (part s : ℕ) (job payload buffer : List ℕ) (served : translateOf pa
   unrefused = neither (jobRefusal part s job (length payload)) _ (eqb-true _ _ taken) .0
 
   known : isPart part ≡ true
-  unfolding jobRefusal
-  known = not-false _ (passed (not (isPart part)) 1 _ (omega arith) unrefused .0)
+  known = job-passed part s job (length payload) unrefused .known
 
   bill-is : figures part s job payload ≡ billOf (stepsOf job)
   unfolding quoteOf

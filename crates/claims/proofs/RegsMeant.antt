@@ -21,7 +21,7 @@ use Rattle.rules.specs.Job.{settingLimit, stepAt, stepCount, withStep, stepsFro
 use Rattle.rules.specs.JobRefusals.{settingAfter}
 use Rattle.rules.specs.Translate.{translateOf}
 use Rattle.rules.specs.Ready.{Ready, Roomy}
-use Rattle.job.proofs.Guards.{setting-small}
+use Rattle.laws.proofs.Guards.{setting-small}
 use Rattle.claims.proofs.RoundTrip.{regs-back}
 use Rattle.claims.specs.Means.{tapeWritten}
 use Rattle.claims.proofs.JobMeans.{job-means-what-it-says}

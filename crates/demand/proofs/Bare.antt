@@ -6,29 +6,17 @@ use native.Mathlib.Omega.{arith}
 use lib.Dec.{ltb}
 use borrow.Author.Tests.{ltb-false}
 use Rattle.lists.specs.Choice.{if_then_else_}
-use Rattle.lists.specs.declared.Found.{Found}
 use Rattle.lists.specs.declared.Found.the-variants.{At, Nothing}
 use Rattle.lists.proofs.Search.{overlap, overlap-no}
-use Rattle.rules.specs.declared.Step.{Step}
 use Rattle.rules.specs.Units.{page, pageStart}
 use Rattle.rules.specs.Part.{Part}
 use Rattle.rules.specs.Protection.{firstProtected}
-use Rattle.rules.specs.JobRefusals.{some, shielded, stepStart, stepReach}
 use Rattle.laws.proofs.Sound.{Sound}
 use Rattle.laws.proofs.Protection.{first-protected, none-protected, bare-none}
 
 -- no byte of the n from a on is protected at setting s
 abbrev pub Bare : Part → ℕ → ℕ → ℕ → Type 0
 Bare p s a n = firstProtected p s a n ≡ Nothing
-
--- not 25
-pub shielded-bare : (p : Part) (s : ℕ) (w : Step) → shielded p s w ≡ false → Bare p s (stepStart w) (stepReach p w)
-unfolding shielded
-shielded-bare p s w e = go (firstProtected p s (stepStart w) (stepReach p w)) e
-  where
-    go : (f : Found) → some f ≡ false → f ≡ Nothing
-    go (At x) e = let z : _≡_ {A = ℕ} 0 1 = cc in absurd (omega arith)
-    go Nothing e = refl
 
 -- a stretch inside a bare one
 pub bare-part : (p : Part) (s a n b m : ℕ) → a ≤ b → b + m ≤ a + n → Bare p s a n → Bare p s b m

@@ -16,7 +16,8 @@ use Rattle.rules.specs.Tape.{Rec, transaction, finish, recordLength, sentLimit}
 use Rattle.rules.specs.Job.{layBytes}
 use Rattle.rules.specs.Records.{three, addressBytes, eraseBytes, roomAt, pageRecs, pagesTouched, stepRecs, jobRecs, stepBill, billOf}
 use Rattle.demand.proofs.Tapeable.{Tapeable}
-use Rattle.demand.proofs.Accept.{StepOk, JobOk, none, next}
+use Rattle.laws.proofs.JobPassed.{StepOk}
+use Rattle.demand.proofs.Accept.{JobOk, none, next}
 use Rattle.demand.proofs.Bytes.{AllBytes, bytes-none, bytes-cons, bytes-drop, bytes-take, bytes-address}
 
 -- ---- records that fit

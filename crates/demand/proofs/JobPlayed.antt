@@ -1,22 +1,19 @@
 -- Demand 3 from the job's bytes: what translating does not refuse, a ready chip plays.
 use mathlib.Core.Path.{_≡_}
-use mathlib.Core.Bool.{not}
 use mathlib.Core.List.{List}
 use Prim.Native.Nat.{ℕ}
-use native.Mathlib.Omega.{arith}
 use lib.ListN.{length}
-use Rattle.lists.specs.Choice.{_<?_}
 use Rattle.rules.specs.declared.Kept.{Kept}
 use Rattle.rules.specs.declared.Meter.{Meter}
-use Rattle.rules.specs.Parts.{isPart, partOf}
+use Rattle.rules.specs.Parts.{partOf}
 use Rattle.rules.specs.Status.{regsOf}
 use Rattle.rules.specs.Tape.{Rec}
 use Rattle.rules.specs.Play.{state, play}
-use Rattle.rules.specs.Job.{settingLimit, stepCount, stepsOf}
-use Rattle.rules.specs.JobRefusals.{unfit, jobRefusal}
+use Rattle.rules.specs.Job.{stepCount, stepsOf}
+use Rattle.rules.specs.JobRefusals.{jobRefusal}
 use Rattle.rules.specs.Records.{jobRecs}
 use Rattle.rules.specs.Ready.{Ready}
-use Rattle.laws.proofs.Accepted.{passed}
+use Rattle.laws.proofs.JobPassed.{job-passed}
 use Rattle.demand.specs.Ignored.{ignoredIn}
 use Rattle.demand.proofs.Tapeable.{part-tapeable}
 use Rattle.demand.proofs.Fit.{Fit}
@@ -27,12 +24,7 @@ use Rattle.demand.proofs.Holds.{RecsOk, recs-ok}
 
 -- none of 1 and 20 to 25
 pub accepted-ok : (part s : ℕ) (job : List ℕ) (n : ℕ) → jobRefusal part s job n .number ≡ 0 → JobOk (partOf part) s n (stepsOf job)
-unfolding jobRefusal
-accepted-ok part s job n e =
-    let e1 = passed (not (isPart part)) 1 _ (omega arith) e in
-    let e2 = passed (unfit job n) 20 _ (omega arith) (e1 .1) in
-    let e3 = passed (settingLimit <? s) 21 _ (omega arith) (e2 .1) in
-    job-ok (partOf part) s n job 0 (stepCount job) (e3 .1)
+accepted-ok part s job n e = job-ok (partOf part) s n job 0 (stepCount job) (job-passed part s job n e .unrefused)
 
 -- the records of a job
 abbrev pub recsOfJob : ℕ → List ℕ → List ℕ → List Rec

@@ -1,14 +1,11 @@
 -- One step of an accepted job, played: what the step means.
 use mathlib.Core.Path.{_≡_, refl, _∙_}
-use mathlib.Core.Bool.{Bool, true, false, _||_}
+use mathlib.Core.Bool.{Bool, true, false}
 use mathlib.Core.List.{List, _∷_, _++_}
 use Prim.Native.Nat.{ℕ, suc, _+_, _-_, _/_, _≤_, _<_}
 use native.Mathlib.Omega.{arith}
 use lib.ListN.{length, getD, drop, length-drop}
 use lib.Seq.{length-take-le}
-use borrow.Author.Tests.{ltb-false, leb-false, eqb-false}
-use Rattle.lists.specs.Choice.{_=?_, _<?_, _≤?_}
-use Rattle.lists.proofs.Choice.{either-false}
 use Rattle.lists.proofs.Patched.{patched-length}
 use Rattle.rules.specs.declared.EraseUnit.{EraseUnit}
 use Rattle.rules.specs.declared.EraseUnit.the-variants.{Sector, Block32, Block64, Chip}
@@ -27,17 +24,18 @@ use Rattle.rules.specs.Verdict.{addressOf}
 use Rattle.rules.specs.Tape.{Rec}
 use Rattle.rules.specs.Play.{State, state, play}
 use Rattle.rules.specs.Job.{settingLimit, layBytes, meant, settingMeant, guarded, regsMeant}
-use Rattle.rules.specs.JobRefusals.{layLimit, chipNotAtZero, outside, beyond}
+use Rattle.rules.specs.JobRefusals.{beyond}
 use Rattle.rules.specs.Records.{eraseBytes, pagesTouched, stepRecs, stepBill}
 use Rattle.laws.proofs.Sound.{unit-end}
+use Rattle.laws.proofs.Inside.{lay-inside, erase-inside}
+use Rattle.laws.proofs.JobPassed.{StepOk, lay-covered, step-bare}
 use Rattle.laws.proofs.Protection.{bare-none}
 use Rattle.demand.specs.Raised.{raised}
 use Rattle.demand.proofs.Lay.{laid-length}
 use Rattle.demand.proofs.Tapeable.{Tapeable}
 use Rattle.demand.proofs.Fit.{Calm, Fit, calm-wel}
 use Rattle.demand.proofs.Three.{Says, settled-plain, three-play}
-use Rattle.demand.proofs.Accept.{StepOk}
-use Rattle.demand.proofs.Bare.{Bare, shielded-bare}
+use Rattle.demand.proofs.Bare.{Bare}
 use Rattle.demand.proofs.Address.{unit-back}
 use Rattle.demand.proofs.Rise.{counted-raised}
 use Rattle.demand.proofs.Pages.{Layable, pages-play}
@@ -46,28 +44,9 @@ use Rattle.demand.proofs.Pages.{Layable, pages-play}
 abbrev pub afterStep : Part → List ℕ → Step → State → State
 afterStep p payload w s = state (regsMeant (s .regs) w) (meant p payload (s .array) w) (raised (s .meter) (stepBill w))
 
--- ---- what not 23 and not 24 say
-
-erase-inside : (p : Part) (u : EraseUnit) (a : ℕ) → outside p (Erase u a) ≡ false → a < p .size
-erase-inside p u a e = leb-false (p .size) a (either-false (p .size ≤? a) (chipNotAtZero u a) e .0)
-
-record Inside (p : Part) (w : Span) : Type 0 where
-  some : 0 < w .length
-  ends : w .address + w .length ≤ p .size
-
-lay-inside : (p : Part) (w : Span) → outside p (Lay w) ≡ false → Inside p w
-lay-inside p w e =
-    let q : Bool = p .size ≤? w .address in
-    let r : Bool = w .length =? 0 in
-    let t : Bool = layLimit <? w .length in
-    let a = either-false (q || r || t) (p .size <? w .address + w .length) e in
-    let b = either-false (q || r) t (a .0) in
-    let c = eqb-false (w .length) 0 (either-false q r (b .0) .1) in
-    record { some = omega arith; ends = ltb-false (p .size) (w .address + w .length) (a .1) }
-
 lay-length : (payload : List ℕ) (w : Span) → beyond (length payload) (Lay w) ≡ false → length (layBytes payload w) ≡ w .length
 lay-length payload w e =
-    let h : w .offset + w .length ≤ length payload = ltb-false _ _ e in
+    let h = lay-covered (length payload) w e in
     length-take-le (w .length) (drop (w .offset) payload) (omega (arith, length-drop (w .offset) payload))
 
 calm-guarded : (r : Regs) → Calm r → (g : ℕ) → Calm (guarded r g)
@@ -114,7 +93,7 @@ module _ (p : Part) (law : Tapeable p) where
         let b : List ℕ = eraseBytes u a in
         let back : unitStart u (addressOf p b) ≡ unitStart u a = unit-back p (law .sound) u a (erase-inside p u a (k .inside)) in
         let free : Bare p (s .regs .setting) (unitStart u (addressOf p b)) (unitLength (p .size) u) =
-        rw back (shielded-bare p (s .regs .setting) (Erase u a) (k .bare)) in
+        rw back (step-bare p (s .regs .setting) (Erase u a) (k .bare)) in
         three-play p law s (fit .calm) (W.Erase u) b (erase-says u a) free es
         ∙ (λ i. play p es (state (settled-plain (s .regs) (fit .calm) i) (erased-same (p .size) (s .array) u _ _ back i) (counted-raised (s .meter) (W.Erase u) i)))
     step-play (Lay w) k es =
@@ -124,7 +103,7 @@ module _ (p : Part) (law : Tapeable p) where
         let i = lay-inside p w (k .inside) in
         let some = i .some in
         let ends = i .ends in
-        let free : Bare p (s .regs .setting) (w .address) (length bs) = rw long (shielded-bare p (s .regs .setting) (Lay w) (k .bare)) in
+        let free : Bare p (s .regs .setting) (w .address) (length bs) = rw long (step-bare p (s .regs .setting) (Lay w) (k .bare)) in
         let q : Layable p s (w .address) (length bs) = record { some = omega arith; ends = omega arith; bare = free } in
         let e : pagesTouched (w .address) (w .length) ≡ suc n = omega arith in
         rw e (pages-play p law n s fit (w .address) bs q (omega arith) es)

@@ -1,6 +1,9 @@
 pub mod Accepted
 pub mod Answered
 pub mod CarriedOut
+pub mod Guards
+pub mod Inside
+pub mod JobPassed
 pub mod NoWrite
 pub mod Protection
 pub mod Sound

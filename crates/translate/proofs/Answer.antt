@@ -19,9 +19,10 @@ use Rattle.rules.specs.JobRefusals.{outside, beyond, jobRefusal}
 use Rattle.rules.specs.Refusals.{refusal, _orElse_}
 use Rattle.rules.specs.Translate.{tapeOf, translateRefusal, translateTold, translateSeen, translateBy, translateOf}
 use Rattle.laws.proofs.Sound.{part-sound, size-small}
-use Rattle.job.proofs.Guards.{guard-small}
-use Rattle.job.proofs.Inside.{erase-inside}
-use Rattle.job.proofs.Passed.{Passed, Accepted, job-accepted, accepted-counted, lay-within}
+use Rattle.laws.proofs.Guards.{guard-small}
+use Rattle.laws.proofs.Inside.{erase-inside}
+use Rattle.laws.proofs.JobPassed.{lay-covered}
+use Rattle.job.proofs.Passed.{each-passed, accepted-counted}
 use Rattle.translate.specs.Writable.{Writable, WritableJob}
 
 same-step : (v w : Step) → Good v ≡ Good w → v ≡ w
@@ -30,13 +31,13 @@ same-step v w e = cc
 module _ (part s : ℕ) (job payload : List ℕ) (ok : jobRefusal part s job (length payload) .number ≡ 0) where
   step-writable : (i : ℕ) → i < stepCount job → (w : Step) → stepAt job i ≡ Good w → Writable (partOf part) payload w
   step-writable i h w e =
-      let q = job-accepted part s job (length payload) ok .each-step i h in
+      let q = each-passed part s job (length payload) ok i h in
       let v = same-step (q .step) w (sym (q .good) ∙ e) in
       let z = size-small (partOf part) (part-sound part) in
       record {
-        erases = λ u a f. omega (arith, erase-inside (partOf part) u a (ap (outside (partOf part)) (sym (v ∙ f)) ∙ q .inside), z);
+        erases = λ u a f. omega (arith, erase-inside (partOf part) u a (ap (outside (partOf part)) (sym (v ∙ f)) ∙ q .ok .inside), z);
         lays = λ c f. accepted-counted part s job (length payload) ok .each i h w e .lays c f;
-        covered = λ c f. lay-within (length payload) c (ap (beyond (length payload)) (sym (v ∙ f)) ∙ q .within);
+        covered = λ c f. lay-covered (length payload) c (ap (beyond (length payload)) (sym (v ∙ f)) ∙ q .ok .covered);
         guards = λ g f. guard-small job i g (e ∙ ap Good f);
       }
 

@@ -1,4 +1,4 @@
-use Rattle.job.proofs.Inside.{step-end}
+use Rattle.laws.proofs.Inside.{step-end}
 use Rattle.laws.proofs.Sound.{part-sound, size-small}
 use Rattle.rules.specs.Parts.{partOf}
 use Rattle.rules.specs.JobRefusals.{shielded}

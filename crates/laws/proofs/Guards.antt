@@ -1,8 +1,8 @@
--- A guard's setting is one of 0 to 31, and so is the setting that any step is checked at.
+-- A guard's setting is one of 0 to 31.
 use mathlib.Core.Path.{_≡_, refl}
 use mathlib.Core.Bool.{Bool, true, false}
 use mathlib.Core.List.{List}
-use Prim.Native.Nat.{ℕ, zero, suc, _+_, _≤_}
+use Prim.Native.Nat.{ℕ, _+_, _≤_}
 use native.Mathlib.Omega.{arith}
 use lib.ListN.{getD}
 use borrow.Author.Tests.{leb-true}
@@ -13,7 +13,6 @@ use Rattle.rules.specs.declared.Decoded.{Decoded}
 use Rattle.rules.specs.declared.Decoded.the-variants.{Good, Bad}
 use Rattle.rules.specs.Job.{settingLimit, zeros, eraseAt, layAt, guardAt, decodedAt, stepAt}
 use Rattle.rules.specs.JobRefusals.{settingAfter}
-use Rattle.job.specs.Carried.{settingAt}
 
 -- a record, so that what was decoded is found at a use
 record Bounded (d : Decoded) : Type 0 where
@@ -45,8 +44,3 @@ setting-small job s i h = bounded job _ .after s h
 
 pub guard-small : (job : List ℕ) (i g : ℕ) → stepAt job i ≡ Good (Guard g) → g ≤ settingLimit
 guard-small job i g e = rw e at (setting-small job 0 i (omega arith))
-
-pub carried-small : (job : List ℕ) (s i : ℕ) → s ≤ settingLimit → settingAt job s i ≤ settingLimit
-unfolding settingAt
-carried-small job s zero h = h
-carried-small job s (suc i) h = setting-small job (settingAt job s i) i (carried-small job s i h)
