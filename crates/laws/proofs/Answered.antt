@@ -69,9 +69,11 @@ out-after p r l b n (CarriedOut (Writes w)) = refl
 
 -- ---- finish and power cycle
 
-pub event-served : (z : Refusal) (kept : Kept) (r : Regs) → z .number ≡ 0 → eventTold kept (Ev.Passed (keptOf r)) ≡ eventBy z kept r
+-- the registers taken apart as r, moved by f to s, and put together as back
+pub event-served : (z : Refusal) (kept back : Kept) (f : Regs → Regs) (r s : Regs) → z .number ≡ 0 → r ≡ regsOf kept → s ≡ f r → back ≡ keptOf s
+    → eventTold kept (Ev.Passed back) ≡ eventBy z kept (f (regsOf kept))
 unfolding eventBy if_then_else_
-event-served z kept r e = sym (rw e)
+event-served z kept back f r s e p q w = ap (λ (k : Kept). eventTold kept (Ev.Passed k)) (w ∙ ap keptOf (q ∙ ap f p)) ∙ sym (rw e)
 
 pub event-refused : (z : Refusal) (kept : Kept) (r : Regs) → (z .number ≡ 0 → ⊥) → eventTold kept (Ev.Refused z) ≡ eventBy z kept r
 unfolding eventBy if_then_else_

@@ -1,8 +1,6 @@
 use Rattle.laws.proofs.Answered.{event-served, event-refused}
-use Rattle.rules.specs.declared.Kept.{Kept}
-use Rattle.rules.specs.EventEntries.{eventTold, powerCycleOf}
-use Rattle.rules.specs.declared.Event.the-variants.{Passed}
-use mathlib.Core.Path.{ap, _∙_, sym}
+use Rattle.rules.specs.Events.{powerCycled}
+use Rattle.rules.specs.EventEntries.{powerCycleOf}
 use borrow.Author.Needs.{needs}
 use Rattle.chip.proofs.power_cycle.Statement.{statement}
 use Rattle.chip.proofs.power_cycle.Tie as tie
@@ -26,9 +24,9 @@ kept-of-requires c κs = search needs
 returns-2 : tie.Need-returns-2
 unfolding powerCycleOf
 returns-2 c =
-    let k = c .before .before .before .before .before .args .kept in
-    rw (← c .before .before .before .before .event .ensures)
-    (ap (λ (w : Kept). eventTold k (Passed w)) (simp (c .kept-of .ensures, c .before .power-cycled .ensures, c .before .before .regs-of .ensures)) ∙ event-served _ k _ (c .before .before .before .if1 .left))
+    let d = c .before .before .before in
+    rw (← d .before .event .ensures)
+    (event-served _ _ _ powerCycled _ _ (d .if1 .left) (c .before .before .regs-of .ensures) (c .before .power-cycled .ensures) (c .kept-of .ensures))
 
 pub power-cycle-spec : {M : Type 1} → statement M
 power-cycle-spec =
