@@ -1,7 +1,7 @@
 use Rattle.rules.specs.Fm25q16.{fmCommands}
 use Rattle.rules.specs.Part.{commandIn}
 use Rattle.lists.specs.Choice.{if_then_else_}
-use borrow.Author.Tests.{ne-eqb}
+use Rattle.parts.proofs.NoRow.{no-command}
 use Rattle.parts.proofs.fm25q16.command_of.Statement.{statement}
 use Rattle.parts.proofs.fm25q16.command_of.Tie as tie
 
@@ -74,28 +74,8 @@ unfolding commandIn fmCommands if_then_else_
 returns-17 c = rw (c .match .keys17)
 
 returns-18 : tie.Need-returns-18
-unfolding commandIn fmCommands if_then_else_
-returns-18 c =
-    let r = c .match .rest in
-    simp (
-      ne-eqb _ _ (r .0 .0 .0 .0 .0 .0 .0 .0 .0 .0 .0 .0 .0 .0 .0 .0 .1),
-      ne-eqb _ _ (r .0 .0 .0 .0 .0 .0 .0 .0 .0 .0 .0 .0 .0 .0 .0 .1),
-      ne-eqb _ _ (r .0 .0 .0 .0 .0 .0 .0 .0 .0 .0 .0 .0 .0 .0 .1),
-      ne-eqb _ _ (r .0 .0 .0 .0 .0 .0 .0 .0 .0 .0 .0 .0 .0 .1),
-      ne-eqb _ _ (r .0 .0 .0 .0 .0 .0 .0 .0 .0 .0 .0 .0 .1),
-      ne-eqb _ _ (r .0 .0 .0 .0 .0 .0 .0 .0 .0 .0 .0 .1),
-      ne-eqb _ _ (r .0 .0 .0 .0 .0 .0 .0 .0 .0 .0 .1),
-      ne-eqb _ _ (r .0 .0 .0 .0 .0 .0 .0 .0 .0 .1),
-      ne-eqb _ _ (r .0 .0 .0 .0 .0 .0 .0 .0 .1),
-      ne-eqb _ _ (r .0 .0 .0 .0 .0 .0 .0 .1),
-      ne-eqb _ _ (r .0 .0 .0 .0 .0 .0 .1),
-      ne-eqb _ _ (r .0 .0 .0 .0 .0 .1),
-      ne-eqb _ _ (r .0 .0 .0 .0 .1),
-      ne-eqb _ _ (r .0 .0 .0 .1),
-      ne-eqb _ _ (r .0 .0 .1),
-      ne-eqb _ _ (r .0 .1),
-      ne-eqb _ _ (r .1),
-    )
+unfolding fmCommands
+returns-18 c = no-command _ fmCommands _ (c .match .rest)
 
 pub command-of-spec : {M : Type 1} → statement M
 command-of-spec =

@@ -1,7 +1,7 @@
 use Rattle.rules.specs.Fm25q16.{fmCommands}
 use Rattle.rules.specs.Part.{shapedIn, takes, leaves}
 use Rattle.lists.specs.Choice.{if_then_else_}
-use borrow.Author.Tests.{ne-eqb}
+use Rattle.parts.proofs.NoRow.{no-shape}
 use borrow.Author.Needs.{needs}
 use Rattle.parts.proofs.fm25q16.is_shaped.Statement.{statement}
 use Rattle.parts.proofs.fm25q16.is_shaped.Tie as tie
@@ -126,28 +126,8 @@ unfolding shapedIn takes leaves fmCommands if_then_else_
 returns-17 c = rw (c .before .match .keys17) (c .or-more7 .ensures)
 
 returns-18 : tie.Need-returns-18
-unfolding shapedIn takes leaves fmCommands if_then_else_
-returns-18 c =
-    let r = c .match .rest in
-    simp (
-      ne-eqb _ _ (r .0 .0 .0 .0 .0 .0 .0 .0 .0 .0 .0 .0 .0 .0 .0 .0 .1),
-      ne-eqb _ _ (r .0 .0 .0 .0 .0 .0 .0 .0 .0 .0 .0 .0 .0 .0 .0 .1),
-      ne-eqb _ _ (r .0 .0 .0 .0 .0 .0 .0 .0 .0 .0 .0 .0 .0 .0 .1),
-      ne-eqb _ _ (r .0 .0 .0 .0 .0 .0 .0 .0 .0 .0 .0 .0 .0 .1),
-      ne-eqb _ _ (r .0 .0 .0 .0 .0 .0 .0 .0 .0 .0 .0 .0 .1),
-      ne-eqb _ _ (r .0 .0 .0 .0 .0 .0 .0 .0 .0 .0 .0 .1),
-      ne-eqb _ _ (r .0 .0 .0 .0 .0 .0 .0 .0 .0 .0 .1),
-      ne-eqb _ _ (r .0 .0 .0 .0 .0 .0 .0 .0 .0 .1),
-      ne-eqb _ _ (r .0 .0 .0 .0 .0 .0 .0 .0 .1),
-      ne-eqb _ _ (r .0 .0 .0 .0 .0 .0 .0 .1),
-      ne-eqb _ _ (r .0 .0 .0 .0 .0 .0 .1),
-      ne-eqb _ _ (r .0 .0 .0 .0 .0 .1),
-      ne-eqb _ _ (r .0 .0 .0 .0 .1),
-      ne-eqb _ _ (r .0 .0 .0 .1),
-      ne-eqb _ _ (r .0 .0 .1),
-      ne-eqb _ _ (r .0 .1),
-      ne-eqb _ _ (r .1),
-    )
+unfolding fmCommands
+returns-18 c = no-shape _ fmCommands _ _ _ (c .match .rest)
 
 pub is-shaped-spec : {M : Type 1} → statement M
 is-shaped-spec =
