@@ -69,7 +69,7 @@ module _ (payload : List ℕ) where
 
 -- ---- the length of the tape
 
-pages-long : (n a : ℕ) (bs : List ℕ) → length (pageRecs n a bs) ≡ 3 * n
+pub pages-long : (n a : ℕ) (bs : List ℕ) → length (pageRecs n a bs) ≡ 3 * n
 unfolding pageRecs
 pages-long zero a bs = refl
 pages-long (suc n) a bs = let ih = pages-long n (a + roomAt a) (drop (roomAt a) bs) in omega arith

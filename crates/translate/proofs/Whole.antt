@@ -16,10 +16,10 @@ use Rattle.rules.specs.Fm25q16.{fmGuardBytes, fm25q16}
 use Rattle.rules.specs.Parts.{partOf}
 use Rattle.rules.specs.Tape.{Rec, encode}
 use Rattle.rules.specs.Job.{stepAt, stepsFrom, stepsOf, withStep, layBytes}
-use Rattle.rules.specs.Records.{three, addressBytes, eraseBytes, roomAt, pageRecs, pagesTouched, stepRecs, jobRecs, billOf}
+use Rattle.rules.specs.Records.{addressBytes, eraseBytes, roomAt, pageRecs, pagesTouched, stepRecs, jobRecs, billOf}
 use Rattle.rules.specs.Translate.{tapeOf}
 use Rattle.tape.proofs.Encoded.{RecsOk, none, ok-append, encode-length, encode-append}
-use Rattle.demand.proofs.Holds.{recs-long}
+use Rattle.demand.proofs.Holds.{pages-long, recs-long}
 use Rattle.translate.specs.Spliced.{spliced}
 use Rattle.translate.specs.Writable.{Writable, recordCount, decodedRecs, decodedCount}
 use Rattle.translate.proofs.Splices.{splice-none, splice-recs}
@@ -57,16 +57,9 @@ decoded-ok part payload Bad = none
 
 -- ---- how many they are
 
-pages-count : (n a : ℕ) (bs : List ℕ) → length (pageRecs n a bs) ≡ 3 * n
-unfolding pageRecs
-pages-count zero a bs = refl
-pages-count (suc n) a bs =
-    let ih = pages-count n (a + roomAt a) (drop (roomAt a) bs) in
-    length-append (three (0x02 ∷ addressBytes a ++ take (roomAt a) bs)) (pageRecs n (a + roomAt a) (drop (roomAt a) bs)) ∙ omega (arith, ih)
-
 step-count : (p : Part) (payload : List ℕ) (w : Step) → length (stepRecs p payload w) ≡ recordCount w
 step-count p payload (Erase u a) = refl
-step-count p payload (Lay s) = pages-count (pagesTouched (s .address) (s .length)) (s .address) (layBytes payload s)
+step-count p payload (Lay s) = pages-long (pagesTouched (s .address) (s .length)) (s .address) (layBytes payload s)
 step-count p payload (Guard g) = refl
 
 pub decoded-count : (p : Part) (payload : List ℕ) (d : Decoded) → length (decodedRecs p payload d) ≡ decodedCount d
