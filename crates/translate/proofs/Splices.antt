@@ -6,13 +6,19 @@ use native.Mathlib.Omega.{arith}
 use lib.ListN.{length, take, drop, length-append, length-take, length-drop, take-append-drop}
 use lib.Seq.{take-at, drop-at, length-take-le, take-append-add, drop-append-add, drop-drop, take-take}
 use borrow.Rule.Slice.PartMut.{putMid, post-is}
-use Rattle.translate.specs.Spliced.{spliced}
+use Rattle.rules.specs.Tape.{Rec, encodeRec}
+use Rattle.tape.proofs.Encoded.{RecOk, rec-length}
+use Rattle.translate.specs.Spliced.{spliced, Fits}
 
--- the n places from a on were lent, and left as ys
-pub put-spliced : (l ys : List ℕ) (a n : ℕ) → a + n ≤ length l → length ys ≡ n → putMid a (a + n - a) l ys ≡ spliced l a ys
+-- record k's place was lent, and left as ys, the bytes of r
+pub put-record : (l ys : List ℕ) (k : ℕ) {r : Rec} → RecOk r → Fits l k 1 → ys ≡ encodeRec r
+    → putMid (264 * k) (264 * k + 264 - 264 * k) l ys ≡ spliced l (264 * k) (encodeRec r)
 unfolding spliced
-put-spliced l ys a n h e =
-    ap (λ (r : List ℕ). take a l ++ (ys ++ r)) (post-is a (a + n) l (omega arith) ∙ ap (λ (k : ℕ). drop (a + k) l) (sym e))
+put-record l ys k ok f e =
+    let room = f .fits in
+    let long = ap length e ∙ rec-length ok in
+    ap (λ (w : List ℕ). take (264 * k) l ++ (ys ++ w)) (post-is (264 * k) (264 * k + 264) l (omega arith) ∙ ap (λ (n : ℕ). drop (264 * k + n) l) (sym long))
+    ∙ ap (spliced l (264 * k)) e
 
 pub spliced-length : (l : List ℕ) (a : ℕ) (ys : List ℕ) → a + length ys ≤ length l → length (spliced l a ys) ≡ length l
 unfolding spliced

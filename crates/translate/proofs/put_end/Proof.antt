@@ -1,10 +1,5 @@
-use Rattle.translate.proofs.Splices.{put-spliced}
-use Rattle.translate.specs.Spliced.{spliced}
-use Rattle.tape.proofs.Encoded.{rec-length, finish-ok}
-use lib.ListN.{length}
-use native.Mathlib.Omega.{arith}
-use Prim.Native.Nat.{_*_}
-use mathlib.Core.Path.{ap, _∙_}
+use Rattle.translate.proofs.Splices.{put-record}
+use Rattle.tape.proofs.Encoded.{finish-ok}
 use borrow.Author.Needs.{needs}
 use Rattle.translate.proofs.put_end.Statement.{statement}
 use Rattle.translate.proofs.put_end.Tie as tie
@@ -33,10 +28,7 @@ same-length c = search needs
 returns : tie.Need-returns
 returns c =
     let s = c .before .before .before .before .before in
-    let e = c .before .before .put-finish .ensures in
-    let f = s .pre .fits in
-    put-spliced (s .args .tape .now) _ (264 * s .args .k) 264 (omega arith) (ap length e ∙ rec-length finish-ok)
-    ∙ ap (spliced (s .args .tape .now) (264 * s .args .k)) e
+    put-record (s .args .tape .now) _ (s .args .k) finish-ok (s .pre) (c .before .before .put-finish .ensures)
 
 pub put-end-spec : {M : Type 1} → statement M
 put-end-spec =

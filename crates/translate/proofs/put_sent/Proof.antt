@@ -1,10 +1,6 @@
-use Rattle.translate.proofs.Splices.{put-spliced}
-use Rattle.translate.specs.Spliced.{spliced}
-use Rattle.tape.proofs.Encoded.{rec-length, transaction-ok}
-use lib.ListN.{length}
+use Rattle.translate.proofs.Splices.{put-record}
+use Rattle.tape.proofs.Encoded.{transaction-ok}
 use native.Mathlib.Omega.{arith}
-use Prim.Native.Nat.{_*_}
-use mathlib.Core.Path.{ap, _∙_}
 use borrow.Author.Needs.{needs}
 use Rattle.translate.proofs.put_sent.Statement.{statement}
 use Rattle.translate.proofs.put_sent.Tie as tie
@@ -33,10 +29,7 @@ same-length c = search needs
 returns : tie.Need-returns
 returns c =
     let s = c .before .before .before .before .before .before in
-    let e = c .before .before .put-transaction .ensures in
-    let f = s .pre .0 .fits in
-    put-spliced (s .args .tape .now) _ (264 * s .args .k) 264 (omega arith) (ap length e ∙ rec-length (transaction-ok (s .pre .1) (omega arith)))
-    ∙ ap (spliced (s .args .tape .now) (264 * s .args .k)) e
+    put-record (s .args .tape .now) _ (s .args .k) (transaction-ok (s .pre .1) (omega arith)) (s .pre .0) (c .before .before .put-transaction .ensures)
 
 pub put-sent-spec : {M : Type 1} → statement M
 put-sent-spec =

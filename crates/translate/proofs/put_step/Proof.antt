@@ -1,9 +1,6 @@
-use Rattle.translate.specs.Writable.{recordCount}
-use Rattle.translate.specs.Spliced.{Fits}
-use Rattle.rules.specs.declared.Step.{Step}
 use native.Mathlib.Omega.{arith}
 use Prim.Native.Nat.{ℕ, _+_, _*_}
-use mathlib.Core.Path.{_≡_, sym, ap, _∙_, subst}
+use mathlib.Core.Path.{ap}
 use borrow.Author.Needs.{needs}
 use Rattle.translate.proofs.put_step.Statement.{statement}
 use Rattle.translate.proofs.put_step.Tie as tie
@@ -15,7 +12,7 @@ put-erase-requires : tie.Need-put-erase-requires
 put-erase-requires c κs =
     let s = c .before .before .before .before .before .before in
     let e = c .before .before .w .given .1 in
-    (subst (λ (w : Step). Fits (s .args .tape .now) (s .args .k) (recordCount w)) e (s .pre .1), s .pre .0 .erases _ _ e)
+    (rw e at (s .pre .1), s .pre .0 .erases _ _ e)
 
 add-result : tie.Need-add-result
 add-result c = search needs
@@ -27,7 +24,7 @@ put-lay-requires : tie.Need-put-lay-requires
 put-lay-requires c κs =
     let s = c .before .before .before .before .before .before in
     let e = c .before .before .w2 .given .1 in
-    (s .pre .0 .lays _ e, s .pre .0 .covered _ e, subst (λ (w : Step). Fits (s .args .tape .now) (s .args .k) (recordCount w)) e (s .pre .1))
+    (s .pre .0 .lays _ e, s .pre .0 .covered _ e, rw e at (s .pre .1))
 
 pages-touched-requires : tie.Need-pages-touched-requires
 pages-touched-requires c κs = c .before .before .before .before .before .before .before .before .before .pre .0 .lays _ (c .before .before .before .before .before .w2 .given .1)
@@ -45,7 +42,7 @@ put-guard-requires : tie.Need-put-guard-requires
 put-guard-requires c κs =
     let s = c .before .before .before .before .before .before in
     let e = c .before .before .w3 .given .1 in
-    (subst (λ (w : Step). Fits (s .args .tape .now) (s .args .k) (recordCount w)) e (s .pre .1), s .pre .0 .guards _ e)
+    (rw e at (s .pre .1), s .pre .0 .guards _ e)
 
 add-result-3 : tie.Need-add-result-3
 add-result-3 c = search needs
