@@ -69,6 +69,10 @@ from-same n k f g h = tab-same n (fromPlace k f) (fromPlace k g) (λ j l. by (le
     by true e = e
     by false e = refl
 
+-- a callee was handed v, which is w
+pub driven-by : (f : ℕ → ℕ → ℕ) (n k v w : ℕ) (s : List ℕ) → s ≡ tabulate n (fromPlace k (f v)) → v ≡ w → s ≡ tabulate n (fromPlace k (f w))
+driven-by f n k v w s e h = e ∙ ap (λ (x : ℕ). tabulate n (fromPlace k (f x))) h
+
 -- maker and device in turn, by the lowest address bit
 pub even-turn : (p : Part) (b : List ℕ) (maker device n : ℕ) → maker ≡ p .maker → device ≡ p .device → getD b 3 0 % 2 ≡ 0
     → tabulate n (fromPlace 4 (inTurn maker device)) ≡ tabulate n (fromPlace 4 (makerDevice p b))

@@ -1,9 +1,5 @@
-use Rattle.rules.specs.Transaction.{fromPlace, arrayFrom}
-use Rattle.rules.specs.Parts.{partOf}
-use Rattle.lists.specs.Places.{tabulate}
-use lib.ListN.{length}
-use Prim.Native.Nat.{ℕ}
-use mathlib.Core.Path.{ap, _∙_}
+use Rattle.rules.specs.Transaction.{arrayFrom}
+use Rattle.output.proofs.From.{driven-by}
 use borrow.Author.Needs.{needs}
 use Rattle.output.proofs.drive.Statement.{statement}
 use Rattle.output.proofs.drive.Tie as tie
@@ -105,25 +101,25 @@ same-length-3 : tie.Need-same-length-3
 same-length-3 c = search needs
 
 returns-3 : tie.Need-returns-3
-returns-3 c = rw (c .before .before .before .before .before .enum-told3 .given .1) (c .before .before .byte-from .ensures ∙ ap (λ (v : ℕ). tabulate (length (c .before .before .before .before .before .before .before .before .before .before .args .out .now)) (fromPlace 1 (λ j. v))) (c .before .before .before .low-byte .ensures))
+returns-3 c = rw (c .before .before .before .before .before .enum-told3 .given .1) (driven-by (λ v j. v) _ _ _ _ _ (c .before .before .byte-from .ensures) (c .before .before .before .low-byte .ensures))
 
 same-length-4 : tie.Need-same-length-4
 same-length-4 c = search needs
 
 returns-4 : tie.Need-returns-4
-returns-4 c = rw (c .before .before .before .before .before .enum-told4 .given .1) (c .before .before .byte-from2 .ensures ∙ ap (λ (v : ℕ). tabulate (length (c .before .before .before .before .before .before .before .before .before .before .args .out .now)) (fromPlace 1 (λ j. v))) (c .before .before .before .high-byte .ensures))
+returns-4 c = rw (c .before .before .before .before .before .enum-told4 .given .1) (driven-by (λ v j. v) _ _ _ _ _ (c .before .before .byte-from2 .ensures) (c .before .before .before .high-byte .ensures))
 
 same-length-5 : tie.Need-same-length-5
 same-length-5 c = search needs
 
 returns-5 : tie.Need-returns-5
-returns-5 c = rw (c .before .before .before .before .before .enum-told5 .given .1) (c .before .before .array-from .ensures ∙ ap (λ (a : ℕ). tabulate (length (c .before .before .before .before .before .before .before .before .before .before .args .out .now)) (fromPlace 4 (arrayFrom (partOf (c .before .before .before .before .before .before .before .before .before .before .args .part)) (c .before .before .before .before .before .before .before .before .before .before .args .array .now) a))) (c .before .before .before .address-of .ensures .0))
+returns-5 c = rw (c .before .before .before .before .before .enum-told5 .given .1) (driven-by (arrayFrom _ _) _ _ _ _ _ (c .before .before .array-from .ensures) (c .before .before .before .address-of .ensures .0))
 
 same-length-6 : tie.Need-same-length-6
 same-length-6 c = search needs
 
 returns-6 : tie.Need-returns-6
-returns-6 c = rw (c .before .before .before .before .before .enum-told6 .given .1) (c .before .before .array-from2 .ensures ∙ ap (λ (a : ℕ). tabulate (length (c .before .before .before .before .before .before .before .before .before .before .args .out .now)) (fromPlace 5 (arrayFrom (partOf (c .before .before .before .before .before .before .before .before .before .before .args .part)) (c .before .before .before .before .before .before .before .before .before .before .args .array .now) a))) (c .before .before .before .address-of2 .ensures .0))
+returns-6 c = rw (c .before .before .before .before .before .enum-told6 .given .1) (driven-by (arrayFrom _ _) _ _ _ _ _ (c .before .before .array-from2 .ensures) (c .before .before .before .address-of2 .ensures .0))
 
 same-length-7 : tie.Need-same-length-7
 same-length-7 c = search needs
@@ -135,7 +131,7 @@ same-length-8 : tie.Need-same-length-8
 same-length-8 c = search needs
 
 returns-8 : tie.Need-returns-8
-returns-8 c = rw (c .before .before .before .before .before .enum-told8 .given .1) (c .before .before .byte-from3 .ensures ∙ ap (λ (v : ℕ). tabulate (length (c .before .before .before .before .before .before .before .before .before .before .args .out .now)) (fromPlace 4 (λ j. v))) (c .before .before .before .device .ensures))
+returns-8 c = rw (c .before .before .before .before .before .enum-told8 .given .1) (driven-by (λ v j. v) _ _ _ _ _ (c .before .before .byte-from3 .ensures) (c .before .before .before .device .ensures))
 
 same-length-9 : tie.Need-same-length-9
 same-length-9 c = search needs
