@@ -38,6 +38,10 @@ unfolding playRec turnOf
 turned p r l m b x high v regs array meter e f g h =
     (λ i. state (f i) (h i) (g i)) ∙ ap (λ (w : Verdict). state (regsAfter p r b w) (arrayAfter p l b w) (meterAfter m w)) e
 
+-- an event leaves the array
+pub on-array : (l : List ℕ) {r s : Regs} {m n : Meter} → (r ≡ s) × (m ≡ n) → state r l m ≡ state s l n
+on-array l e = λ i. state (e .0 i) l (e .1 i)
+
 -- ---- room
 
 count-room : (m : Meter) (n : ℕ) (w : Write) → Room m (suc n) → Room (counted m w) n

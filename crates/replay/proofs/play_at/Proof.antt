@@ -1,7 +1,10 @@
-use Rattle.replay.proofs.Steps.{said-played, said-sent}
+use Rattle.replay.proofs.Steps.{on-array, said-played, said-sent}
 use Rattle.tape.proofs.Good.{good-short}
 use Rattle.rules.specs.Play.{state, playRec}
 use Rattle.rules.specs.Parts.{partOf}
+use Rattle.rules.specs.Tape.{recAt}
+use Rattle.tape.specs.Record.{recOf}
+use Rattle.rules.specs.declared.AtPlace.{AtPlace}
 use Rattle.rules.specs.declared.Sent.{Sent}
 use native.Mathlib.Omega.{arith}
 use mathlib.Core.Path.{_≡_, sym, ap, _∙_}
@@ -55,38 +58,31 @@ cycled-requires-3 c κs = search needs
 same-length : tie.Need-same-length
 same-length c = search needs
 
+-- the record that was said is the record that is played
+said : (c : tie.After-said-at) {f : AtPlace} → c .said-at .result ≡ f
+    → let a = c .before .before .before .args in
+    let s = state (a .s .regs) (a .array .now) (a .s .meter) in
+    playRec (partOf (a .part)) (recOf (a .tape .now) f) s ≡ playRec (partOf (a .part)) (recAt (a .tape .now) (a .p)) s
+said c e = let a = c .before .before .before .args in said-played (partOf (a .part)) (a .tape .now) (a .p) _ _ (sym e ∙ c .said-at .ensures)
+
 returns : tie.Need-returns
-returns c =
-    let s = c .before .before .before .before .before .before .before .before .before .before .before .before .args in
-    c .before .before .play-sent .ensures ∙ said-played (partOf (s .part)) (s .tape .now) (s .p) _ _ (sym (c .before .before .before .before .before .found .given .1) ∙ c .before .before .before .before .before .before .before .before .before .said-at .ensures)
+returns c = c .before .before .play-sent .ensures ∙ said (c .before .before .before .before .before .before .before .before .before) (c .before .before .before .before .before .found .given .1)
 
 returns-2 : tie.Need-returns-2
 unfolding playRec
-returns-2 c =
-    let s = c .before .before .before .before .before .before .before .before .args in
-    (λ i. state (c .ended .ensures .0 i) (s .array .now) (c .ended .ensures .1 i))
-    ∙ said-played (partOf (s .part)) (s .tape .now) (s .p) (state (s .s .regs) (s .array .now) (s .s .meter)) _ (sym (c .before .enum-told .given .1) ∙ c .before .before .before .before .before .said-at .ensures)
+returns-2 c = on-array _ (c .ended .ensures) ∙ said (c .before .before .before .before .before) (c .before .enum-told .given .1)
 
 returns-3 : tie.Need-returns-3
 unfolding playRec
-returns-3 c =
-    let s = c .before .before .before .before .before .before .before .before .args in
-    (λ i. state (c .cycled .ensures .0 i) (s .array .now) (c .cycled .ensures .1 i))
-    ∙ said-played (partOf (s .part)) (s .tape .now) (s .p) (state (s .s .regs) (s .array .now) (s .s .meter)) _ (sym (c .before .enum-told2 .given .1) ∙ c .before .before .before .before .before .said-at .ensures)
+returns-3 c = on-array _ (c .cycled .ensures) ∙ said (c .before .before .before .before .before) (c .before .enum-told2 .given .1)
 
 returns-4 : tie.Need-returns-4
 unfolding playRec
-returns-4 c =
-    let s = c .before .before .before .before .before .before .before .before .args in
-    (λ i. state (c .cycled2 .ensures .0 i) (s .array .now) (c .cycled2 .ensures .1 i))
-    ∙ said-played (partOf (s .part)) (s .tape .now) (s .p) (state (s .s .regs) (s .array .now) (s .s .meter)) _ (sym (c .before .enum-told3 .given .1) ∙ c .before .before .before .before .before .said-at .ensures)
+returns-4 c = on-array _ (c .cycled2 .ensures) ∙ said (c .before .before .before .before .before) (c .before .enum-told3 .given .1)
 
 returns-5 : tie.Need-returns-5
 unfolding playRec
-returns-5 c =
-    let s = c .before .before .before .before .before .before .before .before .args in
-    (λ i. state (c .cycled3 .ensures .0 i) (s .array .now) (c .cycled3 .ensures .1 i))
-    ∙ said-played (partOf (s .part)) (s .tape .now) (s .p) (state (s .s .regs) (s .array .now) (s .s .meter)) _ (sym (c .before .enum-told4 .given .1) ∙ c .before .before .before .before .before .said-at .ensures)
+returns-5 c = on-array _ (c .cycled3 .ensures) ∙ said (c .before .before .before .before .before) (c .before .enum-told4 .given .1)
 
 pub play-at-spec : {M : Type 1} → statement M
 play-at-spec =
