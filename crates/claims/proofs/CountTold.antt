@@ -90,6 +90,6 @@ module _ (part : ℕ) (kept : Kept) (m : Meter) (l o b : List ℕ) (x wp : ℕ) 
           → Agrees ((if t then transactServed kept m o b (turnBy (partOf part) (regsOf kept) l b v) else transactRefused kept m l o z) .answer)
       go true e =
           let k = taken part (length l) kept (length b) x (length o) m (eqb-true _ _ e) in
-          let c = served-at part m (verdictTold v .number) (getD b 0 0) (k .known) (k .room) ∙ ap (metered 0) (told-by v refl) in
+          let c = served-at part m (verdictTold v .number) (getD b 0 0) (k .begun .known) (k .room) ∙ ap (metered 0) (told-by v refl) in
           (ap (λ (t : Metered). t .meter) c, λ q. ap (λ (t : Metered). t .number) c)
       go false e = (left-at part m (z .number) (getD b 0 0) (eqb-false _ _ e) refused-small, λ q. cc)

@@ -50,5 +50,5 @@ ignored-lent part kept m l o b x wp = go (accepted z) (verdictOf (partOf part) (
     go : (t : Bool) (v : Verdict) → accepted z ≡ t → seen t v .answer .served ≡ true → 1 ≤ seen t v .answer .number → OneCountLent kept m l o b (seen t v)
     go true (CarriedOut k) e s n = absurd (omega arith)
     go true (Ignored w) e s n =
-        record { out = refl; array = refl; regs = kept-back kept (taken part (length l) kept (length b) x (length o) m (eqb-true _ _ e) .formed); meter = refl }
+        record { out = refl; array = refl; regs = kept-back kept (taken part (length l) kept (length b) x (length o) m (eqb-true _ _ e) .begun .formed); meter = refl }
     go false v e s n = let c : _≡_ {A = ℕ} 0 1 = cc in absurd (omega arith)

@@ -71,5 +71,5 @@ protected-byte-stays-lent part kept m l o b x wp y h = go (accepted z) refl
         → getD ((if t then transactServed kept m o b (turnOf (partOf part) (regsOf kept) l b x (isHigh wp)) else transactRefused kept m l o z) .array) y 0 ≡ getD l y 0
     go true e =
         let c = taken part (length l) kept (length b) x (length o) m (eqb-true _ _ e) in
-        protected-byte-stays (partOf part) (part-sound part) (regsOf kept) l b x (isHigh wp) (c .long) y h
+        protected-byte-stays (partOf part) (part-sound part) (regsOf kept) l b x (isHigh wp) (c .begun .long) y h
     go false e = refl

@@ -1,12 +1,10 @@
 -- What the absence of a refusal says, entry by entry; and what a served call answers.
-use mathlib.Core.Path.{_≡_, refl, sym, ap, _∙_}
+use mathlib.Core.Path.{_≡_, refl, sym, _∙_}
 use mathlib.Core.Bool.{Bool, true, false, not, _&&_}
-use mathlib.Core.List.{List, _++_}
 use Prim.Native.Nat.{ℕ, _+_, _≤_, _<_}
 use native.Mathlib.Omega.{arith}
 use lib.Dec.{eqb}
-use lib.ListN.{length}
-use borrow.Author.Tests.{ltb-false, eqb-true, eqb-false, leb-true, not-false, ne-eqb, eq-eqb}
+use borrow.Author.Tests.{ltb-false, eqb-true, eqb-false, leb-true, not-false, eq-eqb}
 use Rattle.lists.specs.Choice.{if_then_else_, _=?_, _<?_, _≤?_}
 use Rattle.lists.proofs.Choice.{both-true}
 use Rattle.rules.specs.declared.Kept.{Kept}
@@ -15,7 +13,7 @@ use Rattle.rules.specs.declared.Refusal.{Refusal}
 use Rattle.rules.specs.Parts.{isPart, partOf}
 use Rattle.rules.specs.Status.{wellFormed}
 use Rattle.rules.specs.Counts.{countLimit, room}
-use Rattle.rules.specs.Refusals.{refusal, _orElse_, transactionLimit, transactRefusal, eventRefusal}
+use Rattle.rules.specs.Refusals.{refusal, _orElse_, transactionLimit, transactRefusal}
 use Rattle.laws.specs.Room.{Room}
 
 -- a check that does not refuse was passed, and so were those after it
@@ -45,11 +43,39 @@ room-is m n e =
     let c = both-true p q (b .0) in
     record { programs-fit = leb-true _ _ (c .0); erases-fit = leb-true _ _ (c .1); writes-fit = leb-true _ _ (b .1); ignored-fit = leb-true _ _ (a .1) }
 
--- every check of a transaction
-pub record Taken (part al : ℕ) (kept : Kept) (n x ol : ℕ) (m : Meter) : Type 0 where
+-- ---- 1, 2 and 3, which an entry that is lent an array asks first
+
+-- .. and then w
+abbrev firstThree : ℕ → ℕ → Kept → Refusal → Refusal
+firstThree part al kept w =
+    if not (isPart part) then refusal 1 else if not (al =? partOf part .size) then refusal 2 else if not (wellFormed (partOf part .statusEnd) kept) then refusal 3 else w
+
+pub record Opened (part al : ℕ) (kept : Kept) : Type 0 where
   pub known : isPart part ≡ true
   pub long : al ≡ partOf part .size
   pub formed : wellFormed (partOf part .statusEnd) kept ≡ true
+
+pub opened : (part al : ℕ) (kept : Kept) (w : Refusal) → firstThree part al kept w .number ≡ 0 → Opened part al kept × (w .number ≡ 0)
+opened part al kept w e =
+    let e1 = passed (not (isPart part)) 1 _ (omega arith) e in
+    let e2 = passed (not (al =? partOf part .size)) 2 _ (omega arith) (e1 .1) in
+    let e3 = passed (not (wellFormed (partOf part .statusEnd) kept)) 3 _ (omega arith) (e2 .1) in
+    (record { known = not-false _ (e1 .0); long = eqb-true _ _ (not-false _ (e2 .0)); formed = not-false _ (e3 .0) }, e3 .1)
+
+-- .. as code asks them: `is` and `ok` are what its calls answer
+pub opened-by : (part al : ℕ) (kept : Kept) (is : Bool) (size end : ℕ) (ok : Bool) → is ≡ isPart part → not is ≡ false → size ≡ partOf part .size → al ≡ size
+    → end ≡ partOf part .statusEnd → ok ≡ wellFormed end kept → not ok ≡ false → Opened part al kept
+opened-by part al kept is size end ok a b c d e f g =
+    record { known = sym a ∙ not-false is b; long = d ∙ c; formed = rw (← e, ← f) (not-false ok g) }
+
+pub past-three : (part al : ℕ) (kept : Kept) (w : Refusal) → Opened part al kept → firstThree part al kept w ≡ w
+unfolding if_then_else_
+past-three part al kept w o = rw (o .known, eq-eqb al (partOf part .size) (o .long), o .formed)
+
+-- ---- every check of a transaction
+
+pub record Taken (part al : ℕ) (kept : Kept) (n x ol : ℕ) (m : Meter) : Type 0 where
+  pub begun : Opened part al kept
   pub short : n ≤ transactionLimit
   pub bits : x ≤ 7
   pub fits : n ≤ ol
@@ -58,17 +84,13 @@ pub record Taken (part al : ℕ) (kept : Kept) (n x ol : ℕ) (m : Meter) : Type
 pub taken : (part al : ℕ) (kept : Kept) (n x ol : ℕ) (m : Meter) → transactRefusal part al kept n x ol m .number ≡ 0 → Taken part al kept n x ol m
 unfolding transactRefusal
 taken part al kept n x ol m e =
-    let e1 = passed (not (isPart part)) 1 _ (omega arith) e in
-    let e2 = passed (not (al =? partOf part .size)) 2 _ (omega arith) (e1 .1) in
-    let e3 = passed (not (wellFormed (partOf part .statusEnd) kept)) 3 _ (omega arith) (e2 .1) in
-    let e4 = passed (transactionLimit <? n) 4 _ (omega arith) (e3 .1) in
+    let o = opened part al kept _ e in
+    let e4 = passed (transactionLimit <? n) 4 _ (omega arith) (o .1) in
     let e5 = passed (7 <? x) 5 _ (omega arith) (e4 .1) in
     let e6 = passed (ol <? n) 6 _ (omega arith) (e5 .1) in
     let e7 = passed (not (room m 1)) 7 _ (omega arith) (e6 .1) in
     record {
-      known = not-false _ (e1 .0);
-      long = eqb-true _ _ (not-false _ (e2 .0));
-      formed = not-false _ (e3 .0);
+      begun = o .0;
       short = ltb-false _ _ (e4 .0);
       bits = ltb-false _ _ (e5 .0);
       fits = ltb-false _ _ (e6 .0);

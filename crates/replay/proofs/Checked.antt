@@ -1,12 +1,12 @@
 -- What the checks of a replay leave, and what it then answers.
 use mathlib.Core.Path.{_≡_, refl, sym, ap, _∙_}
-use mathlib.Core.Bool.{Bool, true, false, not}
+use mathlib.Core.Bool.{not}
 use mathlib.Core.List.{List}
-use Prim.Native.Nat.{ℕ, _≤_, _<_, min}
+use Prim.Native.Nat.{ℕ, min}
 use native.Mathlib.Omega.{arith}
 use lib.ListN.{length, take}
-use borrow.Author.Tests.{eqb-true, not-false, ne-eqb}
-use Rattle.lists.specs.Choice.{if_then_else_, _=?_}
+use borrow.Author.Tests.{not-false, ne-eqb}
+use Rattle.lists.specs.Choice.{if_then_else_}
 use Rattle.lists.specs.declared.Found.{Found}
 use Rattle.lists.specs.declared.Found.the-variants.{At, Nothing}
 use Rattle.lists.proofs.Search.{first-none}
@@ -14,14 +14,14 @@ use Rattle.rules.specs.declared.Kept.{Kept}
 use Rattle.rules.specs.declared.Meter.{Meter}
 use Rattle.rules.specs.declared.Refusal.{Refusal}
 use Rattle.rules.specs.declared.Replayed.the-variants.{Ended, Refused}
-use Rattle.rules.specs.Parts.{isPart, partOf}
-use Rattle.rules.specs.Status.{regsOf, keptOf, wellFormed}
+use Rattle.rules.specs.Parts.{partOf}
+use Rattle.rules.specs.Status.{regsOf, keptOf}
 use Rattle.rules.specs.Counts.{room}
 use Rattle.rules.specs.Tape.{whole, goodRecord, firstBad, records, recsOf}
 use Rattle.rules.specs.Play.{State, state, play}
 use Rattle.rules.specs.Replay.{badRecord, recordsRefusal, replayRefusal, replayTold, replaySeen, replayServed, replayRefused, replayBy, replayFirstOf}
 use Rattle.laws.specs.Room.{Room}
-use Rattle.laws.proofs.Accepted.{passed, neither, room-is}
+use Rattle.laws.proofs.Accepted.{passed, neither, opened, room-is}
 use Rattle.replay.specs.Playable.{Playable}
 
 none-bad : (f : Found) → badRecord f .number ≡ 0 → f ≡ Nothing
@@ -36,15 +36,13 @@ pub record Checked (part al : ℕ) (m : Meter) (t : List ℕ) : Type 0 where
 pub checked : (part al : ℕ) (kept : Kept) (m : Meter) (t : List ℕ) → replayRefusal part al kept m t .number ≡ 0 → Checked part al m t
 unfolding replayRefusal recordsRefusal firstBad
 checked part al kept m t e =
-    let e1 = passed (not (isPart part)) 1 _ (omega arith) e in
-    let e2 = passed (not (al =? partOf part .size)) 2 _ (omega arith) (e1 .1) in
-    let e3 = passed (not (wellFormed (partOf part .statusEnd) kept)) 3 _ (omega arith) (e2 .1) in
-    let e4 = passed (not (whole t)) 30 _ (omega arith) (e3 .1) in
+    let o = opened part al kept _ e in
+    let e4 = passed (not (whole t)) 30 _ (omega arith) (o .1) in
     let e5 = neither (badRecord (firstBad t)) _ (e4 .1) in
     let e6 = passed (not (room m (records t))) 7 _ (omega arith) (e5 .1) in
     let f = first-none (λ p. not (goodRecord t p)) 0 (records t) (none-bad (firstBad t) (e5 .0)) in
     record {
-      long = eqb-true _ _ (not-false _ (e2 .0));
+      long = o .0 .long;
       playable = record { there = omega arith; good = λ p h. not-false _ (f p (omega arith) (omega arith)) };
       room = room-is m (records t) (not-false _ (e6 .0));
     }

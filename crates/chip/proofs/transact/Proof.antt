@@ -38,7 +38,7 @@ regs-of-requires c κs = search needs
 turn-requires : tie.Need-turn-requires
 turn-requires c κs =
     let h = ok (c .before .before) in
-    (h .long, omega (arith, h .short), h .room)
+    (h .begun .long, omega (arith, h .short), h .room)
 
 sub-show : tie.Need-sub-show
 sub-show c = search needs
@@ -57,7 +57,7 @@ show-requires c κs =
     let h = ok (c .before .before .before .before .before .before .before .before .before) in
     let p = partOf (s .part) in
     let l : length (c .before .before .before .before .before .before .turn .last .1 .1 .1 .0) ≡ length (s .array .now) = c .before .before .before .before .before .before .turn .kept .1 .1 .1 .0 in
-    (l ∙ h .long, omega (arith, front-long (s .out .now) (length (s .b .now)) (h .fits), h .short, size-some p (part-sound (s .part))))
+    (l ∙ h .begun .long, omega (arith, front-long (s .out .now) (length (s .b .now)) (h .fits), h .short, size-some p (part-sound (s .part))))
 
 kept-of-requires : tie.Need-kept-of-requires
 kept-of-requires c κs = search needs

@@ -1,3 +1,4 @@
+use Rattle.laws.proofs.Accepted.{Opened, opened-by, past-three}
 use Rattle.rules.specs.Replay.{replayRefusal}
 use Rattle.lists.specs.Choice.{if_then_else_}
 use borrow.Author.Tests.{ne-eqb, eq-eqb}
@@ -38,6 +39,13 @@ returns-3 : tie.Need-returns-3
 unfolding replayRefusal if_then_else_
 returns-3 c = simp (← c .before .before .before .before .before .before .before .is-part .ensures, c .before .before .before .before .before .before .if1 .left, ← c .before .before .before .before .before .size-of .ensures, eq-eqb _ _ (c .before .before .before .before .if2 .left), ← c .before .before .before .status-end .ensures, ← c .before .before .well-formed .ensures, c .before .if3 .taken) (c .refuse3 .ensures)
 
+-- 1, 2 and 3 let pass
+past : (c : tie.Else3) → let a = c .before .before .before .before .before .before .before .before .args in Opened (a .part) (a .al) (a .kept)
+past c =
+    let d = c .before .before .before in
+    opened-by _ _ _ _ _ _ _ (d .before .before .before .is-part .ensures) (d .before .before .if1 .left) (d .before .size-of .ensures) (d .if2 .left)
+    (c .before .before .status-end .ensures) (c .before .well-formed .ensures) (c .if3 .left)
+
 is-whole-requires : tie.Need-is-whole-requires
 is-whole-requires c κs = search needs
 
@@ -46,14 +54,14 @@ refuse-requires-4 c κs = search needs
 
 returns-4 : tie.Need-returns-4
 unfolding replayRefusal if_then_else_
-returns-4 c = simp (← c .before .before .before .before .before .before .before .before .before .is-part .ensures, c .before .before .before .before .before .before .before .before .if1 .left, ← c .before .before .before .before .before .before .before .size-of .ensures, eq-eqb _ _ (c .before .before .before .before .before .before .if2 .left), ← c .before .before .before .before .before .status-end .ensures, ← c .before .before .before .before .well-formed .ensures, c .before .before .before .if3 .left, ← c .before .before .is-whole .ensures, c .before .if4 .taken) (c .refuse4 .ensures)
+returns-4 c = rw (past-three _ _ _ _ (past (c .before .before .before))) (simp (← c .before .before .is-whole .ensures, c .before .if4 .taken) (c .refuse4 .ensures))
 
 refuse-records-requires : tie.Need-refuse-records-requires
 refuse-records-requires c κs = search needs
 
 returns-5 : tie.Need-returns-5
 unfolding replayRefusal if_then_else_
-returns-5 c = simp (← c .before .before .before .before .before .before .before .before .before .is-part .ensures, c .before .before .before .before .before .before .before .before .if1 .left, ← c .before .before .before .before .before .before .before .size-of .ensures, eq-eqb _ _ (c .before .before .before .before .before .before .if2 .left), ← c .before .before .before .before .before .status-end .ensures, ← c .before .before .before .before .well-formed .ensures, c .before .before .before .if3 .left, ← c .before .before .is-whole .ensures, c .before .if4 .left) (c .refuse-records .ensures)
+returns-5 c = rw (past-three _ _ _ _ (past (c .before .before .before))) (simp (← c .before .before .is-whole .ensures, c .before .if4 .left) (c .refuse-records .ensures))
 
 pub refusal-of-spec : {M : Type 1} → statement M
 refusal-of-spec =

@@ -1,3 +1,4 @@
+use Rattle.laws.proofs.Accepted.{Opened, opened-by, past-three}
 use Rattle.rules.specs.Refusals.{transactRefusal}
 use Rattle.lists.specs.Choice.{if_then_else_}
 use borrow.Author.Tests.{ne-eqb, eq-eqb, lt-ltb, le-ltb}
@@ -38,26 +39,33 @@ returns-3 : tie.Need-returns-3
 unfolding transactRefusal if_then_else_
 returns-3 c = simp (← c .before .before .before .before .before .before .before .is-part .ensures, c .before .before .before .before .before .before .if1 .left, ← c .before .before .before .before .before .size-of .ensures, eq-eqb _ _ (c .before .before .before .before .if2 .left), ← c .before .before .before .status-end .ensures, ← c .before .before .well-formed .ensures, c .before .if3 .taken) (c .refuse3 .ensures)
 
+-- 1, 2 and 3 let pass
+past : (c : tie.Else3) → let a = c .before .before .before .before .before .before .before .args in Opened (a .part) (a .al) (a .kept)
+past c =
+    let d = c .before .before .before in
+    opened-by _ _ _ _ _ _ _ (d .before .before .before .is-part .ensures) (d .before .before .if1 .left) (d .before .size-of .ensures) (d .if2 .left)
+    (c .before .before .status-end .ensures) (c .before .well-formed .ensures) (c .if3 .left)
+
 refuse-requires-4 : tie.Need-refuse-requires-4
 refuse-requires-4 c κs = search needs
 
 returns-4 : tie.Need-returns-4
 unfolding transactRefusal if_then_else_
-returns-4 c = simp (← c .before .before .before .before .before .before .before .before .is-part .ensures, c .before .before .before .before .before .before .before .if1 .left, ← c .before .before .before .before .before .before .size-of .ensures, eq-eqb _ _ (c .before .before .before .before .before .if2 .left), ← c .before .before .before .before .status-end .ensures, ← c .before .before .before .well-formed .ensures, c .before .before .if3 .left, lt-ltb _ _ (c .before .if4 .taken)) (c .refuse4 .ensures)
+returns-4 c = rw (past-three _ _ _ _ (past (c .before .before))) (simp (lt-ltb _ _ (c .before .if4 .taken)) (c .refuse4 .ensures))
 
 refuse-requires-5 : tie.Need-refuse-requires-5
 refuse-requires-5 c κs = search needs
 
 returns-5 : tie.Need-returns-5
 unfolding transactRefusal if_then_else_
-returns-5 c = simp (← c .before .before .before .before .before .before .before .before .before .is-part .ensures, c .before .before .before .before .before .before .before .before .if1 .left, ← c .before .before .before .before .before .before .before .size-of .ensures, eq-eqb _ _ (c .before .before .before .before .before .before .if2 .left), ← c .before .before .before .before .before .status-end .ensures, ← c .before .before .before .before .well-formed .ensures, c .before .before .before .if3 .left, le-ltb _ _ (c .before .before .if4 .left), lt-ltb _ _ (c .before .if5 .taken)) (c .refuse5 .ensures)
+returns-5 c = rw (past-three _ _ _ _ (past (c .before .before .before))) (simp (le-ltb _ _ (c .before .before .if4 .left), lt-ltb _ _ (c .before .if5 .taken)) (c .refuse5 .ensures))
 
 refuse-requires-6 : tie.Need-refuse-requires-6
 refuse-requires-6 c κs = search needs
 
 returns-6 : tie.Need-returns-6
 unfolding transactRefusal if_then_else_
-returns-6 c = simp (← c .before .before .before .before .before .before .before .before .before .before .is-part .ensures, c .before .before .before .before .before .before .before .before .before .if1 .left, ← c .before .before .before .before .before .before .before .before .size-of .ensures, eq-eqb _ _ (c .before .before .before .before .before .before .before .if2 .left), ← c .before .before .before .before .before .before .status-end .ensures, ← c .before .before .before .before .before .well-formed .ensures, c .before .before .before .before .if3 .left, le-ltb _ _ (c .before .before .before .if4 .left), le-ltb _ _ (c .before .before .if5 .left), lt-ltb _ _ (c .before .if6 .taken)) (c .refuse6 .ensures)
+returns-6 c = rw (past-three _ _ _ _ (past (c .before .before .before .before))) (simp (le-ltb _ _ (c .before .before .before .if4 .left), le-ltb _ _ (c .before .before .if5 .left), lt-ltb _ _ (c .before .if6 .taken)) (c .refuse6 .ensures))
 
 has-room-requires : tie.Need-has-room-requires
 has-room-requires c κs = search needs
@@ -67,14 +75,14 @@ refuse-requires-7 c κs = search needs
 
 returns-7 : tie.Need-returns-7
 unfolding transactRefusal if_then_else_
-returns-7 c = simp (← c .before .before .before .before .before .before .before .before .before .before .before .before .is-part .ensures, c .before .before .before .before .before .before .before .before .before .before .before .if1 .left, ← c .before .before .before .before .before .before .before .before .before .before .size-of .ensures, eq-eqb _ _ (c .before .before .before .before .before .before .before .before .before .if2 .left), ← c .before .before .before .before .before .before .before .before .status-end .ensures, ← c .before .before .before .before .before .before .before .well-formed .ensures, c .before .before .before .before .before .before .if3 .left, le-ltb _ _ (c .before .before .before .before .before .if4 .left), le-ltb _ _ (c .before .before .before .before .if5 .left), le-ltb _ _ (c .before .before .before .if6 .left), ← c .before .before .has-room .ensures, c .before .if7 .taken) (c .refuse7 .ensures)
+returns-7 c = rw (past-three _ _ _ _ (past (c .before .before .before .before .before .before))) (simp (le-ltb _ _ (c .before .before .before .before .before .if4 .left), le-ltb _ _ (c .before .before .before .before .if5 .left), le-ltb _ _ (c .before .before .before .if6 .left), ← c .before .before .has-room .ensures, c .before .if7 .taken) (c .refuse7 .ensures))
 
 refuse-requires-8 : tie.Need-refuse-requires-8
 refuse-requires-8 c κs = search needs
 
 returns-8 : tie.Need-returns-8
 unfolding transactRefusal if_then_else_
-returns-8 c = simp (← c .before .before .before .before .before .before .before .before .before .before .before .before .is-part .ensures, c .before .before .before .before .before .before .before .before .before .before .before .if1 .left, ← c .before .before .before .before .before .before .before .before .before .before .size-of .ensures, eq-eqb _ _ (c .before .before .before .before .before .before .before .before .before .if2 .left), ← c .before .before .before .before .before .before .before .before .status-end .ensures, ← c .before .before .before .before .before .before .before .well-formed .ensures, c .before .before .before .before .before .before .if3 .left, le-ltb _ _ (c .before .before .before .before .before .if4 .left), le-ltb _ _ (c .before .before .before .before .if5 .left), le-ltb _ _ (c .before .before .before .if6 .left), ← c .before .before .has-room .ensures, c .before .if7 .left) (c .refuse8 .ensures)
+returns-8 c = rw (past-three _ _ _ _ (past (c .before .before .before .before .before .before))) (simp (le-ltb _ _ (c .before .before .before .before .before .if4 .left), le-ltb _ _ (c .before .before .before .before .if5 .left), le-ltb _ _ (c .before .before .before .if6 .left), ← c .before .before .has-room .ensures, c .before .if7 .left) (c .refuse8 .ensures))
 
 pub transaction-spec : {M : Type 1} → statement M
 transaction-spec =
