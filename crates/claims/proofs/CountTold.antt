@@ -8,6 +8,7 @@ use native.Mathlib.Omega.{arith}
 use lib.ListN.{length, getD}
 use borrow.Author.Tests.{eqb-true, eqb-false, ne-eqb, leb-false, le-leb, lt-leb}
 use Rattle.lists.specs.Choice.{if_then_else_, _≤?_}
+use Rattle.lists.proofs.Choice.{by-choice}
 use Rattle.rules.specs.declared.Kept.{Kept}
 use Rattle.rules.specs.declared.Meter.{Meter}
 use Rattle.rules.specs.declared.Metered.{Metered}
@@ -26,7 +27,6 @@ use Rattle.rules.specs.Transact.{AnswerTold, isHigh, transactServed, transactRe
 use Rattle.laws.specs.Room.{Room}
 use Rattle.laws.proofs.Accepted.{taken}
 use Rattle.laws.proofs.CarriedOut.{carried-passed}
-use Rattle.claims.proofs.Choices.{by-choice}
 use Rattle.claims.proofs.Ignored.{ignored-number}
 use Rattle.claims.proofs.NumbersTell.{holdsIn, none-holds, transact-row}
 

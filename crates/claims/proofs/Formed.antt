@@ -9,6 +9,7 @@ use lib.Dec.{lit≤}
 use lib.ListN.{length, getD, take}
 use borrow.Author.Tests.{lt-ltb, le-leb}
 use Rattle.lists.specs.Choice.{_=?_}
+use Rattle.lists.proofs.Choice.{by-choice}
 use Rattle.rules.specs.declared.Kept.{Kept}
 use Rattle.rules.specs.declared.Regs.{Regs}
 use Rattle.rules.specs.declared.Meter.{Meter}
@@ -33,7 +34,6 @@ use Rattle.rules.specs.Tape.{Rec, transaction, finish, powerCycle, records, rec
 use Rattle.rules.specs.Play.{State, state, playRec, play}
 use Rattle.rules.specs.Replay.{ReplaySeen, replayServed, replayRefused, replayBy, replayFirstOf, replayOf}
 use Rattle.rules.proofs.Apart.{code-back}
-use Rattle.claims.proofs.Choices.{by-choice}
 use Rattle.claims.proofs.Table.{heard-asleep, heard-busy}
 use Rattle.claims.proofs.Allowed.{Allowed, carried-out-is-allowed}
 use Rattle.claims.proofs.RoundTrip.{formed-word, flag-small, regs-back}

@@ -6,6 +6,7 @@ use Prim.Native.Nat.{ℕ, _+_, _≤_}
 use lib.Dec.{lit≤}
 use lib.ListN.{length, getD}
 use Rattle.lists.specs.Choice.{if_then_else_, _=?_}
+use Rattle.lists.proofs.Choice.{by-choice}
 use Rattle.lists.specs.Places.{tabulate}
 use Rattle.lists.specs.declared.Found.{Found}
 use Rattle.lists.specs.declared.Found.the-variants.{At, Nothing}
@@ -28,7 +29,6 @@ use Rattle.rules.specs.Verdict.{ignored, addressOf, asleep, held, protectionVer
 use Rattle.rules.specs.Transaction.{Turn, turnOf}
 use Rattle.rules.specs.Counts.{meterAfter}
 use Rattle.laws.proofs.CarriedOut.{by-write, turn-is}
-use Rattle.claims.proofs.Choices.{by-choice}
 
 -- ---- the numbers of ignored verdicts are 10 to 16
 

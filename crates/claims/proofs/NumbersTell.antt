@@ -9,7 +9,7 @@ use lib.Dec.{eqb}
 use lib.ListN.{length, getD}
 use borrow.Author.Tests.{eq-eqb, eqb-false, le-leb}
 use Rattle.lists.specs.Choice.{if_then_else_, _=?_, _≤?_}
-use Rattle.lists.proofs.Choice.{either-false}
+use Rattle.lists.proofs.Choice.{either-false, by-choice}
 use Rattle.lists.specs.declared.Found.{Found}
 use Rattle.lists.specs.declared.Found.the-variants.{At, Nothing}
 use Rattle.rules.specs.declared.Kept.{Kept}
@@ -38,7 +38,7 @@ use Rattle.rules.specs.JobRefusals.{stepNumber, decodedNumber, settingAfter, st
 use Rattle.rules.specs.Translate.{translateRefusal, TranslateSeen, translateBy, translateOf, BillTold, quoteBy, quoteOf}
 use Rattle.rules.specs.CEntries.{tbEvent, tbBill, tbTransact, tbReplay, tbTranslate}
 use Rattle.laws.proofs.CarriedOut.{carried-passed}
-use Rattle.claims.proofs.Choices.{by-choice, either-true}
+use Rattle.claims.proofs.Choices.{either-true}
 use Rattle.claims.proofs.Ignored.{ignored-number}
 
 -- ---- the statement

@@ -8,6 +8,7 @@ use lib.Arith.{bin-ind}
 use lib.Bits.{bitAnd, and-step, and-zero-l, and-self, and-le-r}
 use lib.ListN.{length, getD, drop}
 use Rattle.lists.specs.Choice.{_=?_}
+use Rattle.lists.proofs.Choice.{by-choice}
 use Rattle.rules.specs.declared.Regs.{Regs}
 use Rattle.rules.specs.declared.Write.the-variants.{Program}
 use Rattle.rules.specs.declared.Kind.the-variants.{Writes}
@@ -18,7 +19,6 @@ use Rattle.rules.specs.Cells.{cell, programmed}
 use Rattle.rules.specs.Verdict.{addressOf, verdictOf}
 use Rattle.rules.specs.Transaction.{turnOf}
 use Rattle.laws.proofs.Sound.{Sound, reach-end}
-use Rattle.claims.proofs.Choices.{by-choice}
 use Rattle.claims.proofs.Reach.{In, patched-either, written, address-inside, outside-reach}
 
 -- ---- AND only clears

@@ -8,7 +8,7 @@ use lib.Dec.{lit≤}
 use lib.ListN.{getD}
 use borrow.Author.Tests.{eqb-true, leb-true, ne-eqb}
 use Rattle.lists.specs.Choice.{if_then_else_, _=?_, _≤?_}
-use Rattle.lists.proofs.Choice.{both-true}
+use Rattle.lists.proofs.Choice.{both-true, by-choice}
 use Rattle.rules.specs.declared.EraseUnit.{EraseUnit}
 use Rattle.rules.specs.declared.EraseUnit.the-variants.{Sector, Block32, Block64, Chip}
 use Rattle.rules.specs.declared.Write.{Write}
@@ -70,11 +70,6 @@ record Area (n : ℕ) : Type 0 where
 area : {n : ℕ} → n % page ≡ 0 → n ≤ fmSize → Area n
 area h k = record { whole = h; small = k }
 
-if-area : (t : Bool) {a b : ℕ} → Area a → Area b → Area (if t then a else b)
-unfolding if_then_else_
-if-area true h k = h
-if-area false h k = k
-
 -- a test of a whole table, which is computed, and what it says of each place
 tested : List ℕ → Bool
 tested [] = true
@@ -90,7 +85,7 @@ tested-at (n ∷ ns) e (suc i) = tested-at ns (both-true ((n % page =? 0) && (n 
 
 fm-area : (s : ℕ) → Area (fmArea s)
 unfolding fmArea fmSec0 fmSec1 tested
-fm-area s = if-area _ (tested-at fmSec0 refl (s % 8)) (tested-at fmSec1 refl (s % 8))
+fm-area s = by-choice Area _ _ _ (tested-at fmSec0 refl (s % 8)) (tested-at fmSec1 refl (s % 8))
 
 fm-lo : (s : ℕ) → Area (fmLo s)
 unfolding fmLo
@@ -98,11 +93,11 @@ fm-lo s =
     let a = fm-area s in
     let w = a .whole in
     let k = a .small in
-    if-area _ (area (omega arith) (omega arith)) (area refl (lit≤ tt))
+    by-choice Area _ _ _ (area (omega arith) (omega arith)) (area refl (lit≤ tt))
 
 fm-hi : (s : ℕ) → Area (fmHi s)
 unfolding fmHi
-fm-hi s = if-area _ (area refl (lit≤ tt)) (fm-area s)
+fm-hi s = by-choice Area _ _ _ (area refl (lit≤ tt)) (fm-area s)
 
 pub fm-area-small : (s : ℕ) → fmArea s ≤ fmSize
 fm-area-small s = fm-area s .small

@@ -1,7 +1,7 @@
 -- Laws of choices and of tests.
 use mathlib.Core.Path.{_≡_, refl}
-use mathlib.Core.Bool.{Bool, true, false, not, _&&_, _||_}
-use Prim.Native.Nat.{ℕ, _≤_}
+use mathlib.Core.Bool.{Bool, true, false, _&&_, _||_}
+use Prim.Native.Nat.{ℕ}
 use native.Mathlib.Omega.{arith}
 use Rattle.lists.specs.Choice.{if_then_else_}
 
@@ -14,11 +14,11 @@ pub if-false {ℓ} : {A : Type ℓ} (t : Bool) (a b : A) → t ≡ false → (if
 unfolding if_then_else_
 if-false t a b e = rw e
 
--- each of a choice's two sides is at most n, so the choice is
-pub if-le : {n : ℕ} (t : Bool) {a b : ℕ} → a ≤ n → b ≤ n → (if t then a else b) ≤ n
+-- what holds of both sides of a choice holds of the choice
+pub by-choice {ℓ} : {A : Type 0} (P : A → Type ℓ) (t : Bool) (a b : A) → P a → P b → P (if t then a else b)
 unfolding if_then_else_
-if-le true h k = h
-if-le false h k = k
+by-choice P true a b h k = h
+by-choice P false a b h k = k
 
 pub both-true : (s t : Bool) → (s && t) ≡ true → (s ≡ true) × (t ≡ true)
 both-true true t e = (refl, e)
