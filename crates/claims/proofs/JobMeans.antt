@@ -1,13 +1,12 @@
 -- Demand 3: jobs mean what they say. It speaks of the very bytes that `translate` writes and `replay` reads.
 use mathlib.Core.Path.{_≡_, refl, sym, ap, _∙_, subst}
-use mathlib.Core.Bool.{Bool, true, false, not}
+use mathlib.Core.Bool.{Bool, true, false}
 use mathlib.Core.List.{List, _++_}
 use Prim.Native.Nat.{ℕ, _+_, _*_}
-use native.Mathlib.Omega.{arith}
 use lib.Dec.{eqb}
 use lib.ListN.{length, take, drop}
 use lib.Seq.{take-append-seam, take-length}
-use borrow.Author.Tests.{eqb-true, eq-eqb, not-false}
+use borrow.Author.Tests.{eqb-true, eq-eqb}
 use Rattle.lists.specs.Choice.{if_then_else_}
 use Rattle.rules.specs.declared.Kept.{Kept}
 use Rattle.rules.specs.declared.Meter.{Meter}
@@ -30,14 +29,14 @@ use Rattle.rules.specs.Ready.{Ready, Roomy}
 use Rattle.laws.proofs.Accepted.{neither}
 use Rattle.laws.proofs.JobPassed.{job-passed}
 use Rattle.claims.specs.Means.{tapeWritten, figures, Means}
-use Rattle.tape.proofs.Encoded.{RecsOk}
+use Rattle.laws.proofs.RecordOk.{RecsOk}
 use Rattle.tape.proofs.Round.{encode-whole, encode-records, encode-recs, encode-unfaulted}
 use Rattle.demand.specs.Raised.{raised}
 use Rattle.demand.specs.Ignored.{ignoredIn}
 use Rattle.demand.proofs.Demand3.{afterJob}
-use Rattle.demand.proofs.JobPlayed.{job-played, job-none-ignored}
+use Rattle.demand.proofs.JobPlayed.{job-recs-ok, job-played, job-none-ignored}
 use Rattle.replay.proofs.Checked.{replay-served}
-use Rattle.translate.proofs.Whole.{job-ok, tape-long}
+use Rattle.translate.proofs.Whole.{tape-long}
 
 -- a tape that is served is the job's tape
 served-accepted : (z : Refusal) (w buffer : List ℕ) → translateBy z w buffer .answer .served ≡ true → accepted z ≡ true
@@ -63,9 +62,6 @@ module _ (part s : ℕ) (job payload buffer : List ℕ) (served : translateOf pa
   abbrev rs : List Rec
   rs = jobRecs (partOf part) payload (stepsOf job)
 
-  ok : RecsOk rs
-  ok = job-ok part payload (stepsOf job)
-
   taken : accepted (translateRefusal part s job payload (length buffer)) ≡ true
   unfolding translateOf
   taken = served-accepted _ w buffer served
@@ -77,6 +73,9 @@ module _ (part s : ℕ) (job payload buffer : List ℕ) (served : translateOf pa
   unrefused : jobRefusal part s job (length payload) .number ≡ 0
   unfolding translateRefusal
   unrefused = neither (jobRefusal part s job (length payload)) _ (eqb-true _ _ taken) .0
+
+  ok : RecsOk rs
+  ok = job-recs-ok part s job payload unrefused
 
   known : isPart part ≡ true
   known = job-passed part s job (length payload) unrefused .known
@@ -119,5 +118,5 @@ module _ (part s : ℕ) (job payload buffer : List ℕ) (served : translateOf pa
         (record {
           played = tape-played ∙ ap (λ (b : Bill). replaySeen (record { served = true; number = 0; code = 0; index = 0; regs = keptOf (allRegsMeant (regsOf kept) (stepsOf job)); meter = raised m b }) (arrayMeant (partOf part) payload l (stepsOf job))) (sym bill-is);
           none-ignored = tape-heeded;
-          long = tape-long part job payload ∙ ap (λ (b : Bill). b .length) (sym bill-is);
+          long = tape-long part s job payload unrefused ∙ ap (λ (b : Bill). b .length) (sym bill-is);
         })

@@ -1,8 +1,7 @@
 -- A tape holds the records of an accepted job: each fits, and together they are as long as the bill says.
 use mathlib.Core.Path.{_≡_, refl}
-use mathlib.Core.Bool.{true}
-use mathlib.Core.List.{List, [], _∷_, _++_}
-use Prim.Native.Nat.{ℕ, zero, suc, _+_, _*_, _≤_, _<_}
+use mathlib.Core.List.{List, [], _∷_}
+use Prim.Native.Nat.{ℕ, zero, suc, _+_, _*_, _≤_}
 use native.Mathlib.Omega.{arith}
 use lib.ListN.{length, drop, length-append, length-take}
 use Rattle.rules.specs.declared.EraseUnit.{EraseUnit}
@@ -12,60 +11,39 @@ use Rattle.rules.specs.declared.Step.{Step}
 use Rattle.rules.specs.declared.Step.the-variants.{Erase, Lay, Guard}
 use Rattle.rules.specs.Kinds.{codeOf}
 use Rattle.rules.specs.Part.{Part}
-use Rattle.rules.specs.Tape.{Rec, transaction, finish, recordLength, sentLimit}
-use Rattle.rules.specs.Job.{layBytes}
-use Rattle.rules.specs.Records.{three, addressBytes, eraseBytes, roomAt, pageRecs, pagesTouched, stepRecs, jobRecs, stepBill, billOf}
+use Rattle.rules.specs.Tape.{recordLength, sentLimit}
+use Rattle.rules.specs.Job.{settingLimit, layBytes, settingMeant}
+use Rattle.rules.specs.Records.{three, eraseBytes, roomAt, pageRecs, pagesTouched, stepRecs, jobRecs, stepBill, billOf}
+use Rattle.laws.proofs.RecordOk.{RecsOk, none, next, transaction-ok, finish-ok, ok-append}
 use Rattle.demand.proofs.Tapeable.{Tapeable}
-use Rattle.laws.proofs.JobPassed.{StepOk}
-use Rattle.demand.proofs.Accept.{JobOk, none, next}
-use Rattle.demand.proofs.Bytes.{AllBytes, bytes-none, bytes-cons, bytes-drop, bytes-take, bytes-address}
+use Rattle.demand.proofs.Accept.{JobOk}
+use Rattle.demand.proofs.Accept as J
 
--- ---- records that fit
+-- ---- each record fits
 
--- "the length 0 to 260", "/WP high and no leftover bits"; the bytes sent are bytes if the payload's are
-pub data RecOk (payload : List ℕ) : Rec → Type 0 where
-  sent-ok : {b : List ℕ} → length b ≤ sentLimit → (AllBytes payload → AllBytes b) → RecOk payload (transaction b 0 true)
-  finish-ok : RecOk payload finish
+pub three-ok : (b : List ℕ) → length b ≤ sentLimit → RecsOk (three b)
+three-ok b h = next (transaction-ok {b = codeOf WriteEnable ∷ []} {x = 0} (omega arith) (omega arith)) (next (transaction-ok {x = 0} h (omega arith)) (next finish-ok none))
 
-pub data RecsOk (payload : List ℕ) : List Rec → Type 0 where
-  no-more : RecsOk payload []
-  and-more : {e : Rec} {es : List Rec} → RecOk payload e → RecsOk payload es → RecsOk payload (e ∷ es)
+pages-ok : (n a : ℕ) (bs : List ℕ) → RecsOk (pageRecs n a bs)
+unfolding pageRecs
+pages-ok zero a bs = none
+pages-ok (suc n) a bs = ok-append (three-ok _ (omega (arith, length-take (roomAt a) bs))) (pages-ok n (a + roomAt a) (drop (roomAt a) bs))
 
-module _ (payload : List ℕ) where
-  three-ok : (b : List ℕ) → length b ≤ sentLimit → (AllBytes payload → AllBytes b) → (es : List Rec) → RecsOk payload es → RecsOk payload (three b ++ es)
-  three-ok b h k es r =
-      and-more (sent-ok {b = codeOf WriteEnable ∷ []} (omega arith) (λ q. bytes-cons _ [] (omega arith) bytes-none)) (and-more (sent-ok h k) (and-more finish-ok r))
+erase-short : (u : EraseUnit) (a : ℕ) → length (eraseBytes u a) ≤ sentLimit
+erase-short Sector a = omega arith
+erase-short Block32 a = omega arith
+erase-short Block64 a = omega arith
+erase-short Chip a = omega arith
 
-  pages-ok : (n a : ℕ) (bs : List ℕ) → (AllBytes payload → AllBytes bs) → (es : List Rec) → RecsOk payload es → RecsOk payload (pageRecs n a bs ++ es)
-  unfolding pageRecs
-  pages-ok zero a bs h es r = r
-  pages-ok (suc n) a bs h es r =
-      let k : ℕ = roomAt a in
-      three-ok _ (omega (arith, length-take k bs)) (λ q. bytes-cons 2 _ (omega arith) (bytes-address a _ (bytes-take k bs (h q)))) _
-      (pages-ok n (a + k) (drop k bs) (λ q. bytes-drop k bs (h q)) es r)
+pub step-ok : (p : Part) → Tapeable p → (payload : List ℕ) (w : Step) → settingMeant 0 w ≤ settingLimit → RecsOk (stepRecs p payload w)
+step-ok p law payload (Erase u a) k = three-ok (eraseBytes u a) (erase-short u a)
+step-ok p law payload (Lay s) k = pages-ok (pagesTouched (s .address) (s .length)) (s .address) (layBytes payload s)
+step-ok p law payload (Guard g) k = three-ok _ (law .guard-short g k)
 
-  -- a command that sends its address alone
-  addressed-ok : (c a : ℕ) → c < 256 → (es : List Rec) → RecsOk payload es → RecsOk payload (three (c ∷ addressBytes a) ++ es)
-  addressed-ok c a h es r = three-ok (c ∷ addressBytes a) (omega arith) (λ q. bytes-cons c _ h (bytes-address a [] bytes-none)) es r
-
-  erase-ok : (u : EraseUnit) (a : ℕ) (es : List Rec) → RecsOk payload es → RecsOk payload (three (eraseBytes u a) ++ es)
-  erase-ok Sector a es r = addressed-ok _ a (omega arith) es r
-  erase-ok Block32 a es r = addressed-ok _ a (omega arith) es r
-  erase-ok Block64 a es r = addressed-ok _ a (omega arith) es r
-  erase-ok Chip a es r = three-ok _ (omega arith) (λ q. bytes-cons _ [] (omega arith) bytes-none) es r
-
-  step-recs-ok : (p : Part) → Tapeable p → (s n : ℕ) (w : Step) → StepOk p s n w → (es : List Rec) → RecsOk payload es → RecsOk payload (stepRecs p payload w ++ es)
-  step-recs-ok p h s n (Erase u a) k es r = erase-ok u a es r
-  step-recs-ok p h s n (Lay w) k es r =
-      pages-ok (pagesTouched (w .address) (w .length)) (w .address) (layBytes payload w)
-      (λ q. bytes-take (w .length) (drop (w .offset) payload) (bytes-drop (w .offset) payload q)) es r
-  step-recs-ok p h s n (Guard g) k es r =
-      three-ok _ (h .guard-short g (k .known)) (λ q. bytes-cons 1 _ (omega arith) (record { small = h .guard-bytes g (k .known) })) es r
-
-  pub recs-ok : (p : Part) → Tapeable p → (s n : ℕ) (ws : List Step) → JobOk p s n ws → RecsOk payload (jobRecs p payload ws)
-  unfolding jobRecs
-  recs-ok p h s n [] none = no-more
-  recs-ok p h s n (w ∷ ws) (next k ks) = step-recs-ok p h s n w k (jobRecs p payload ws) (recs-ok p h _ n ws ks)
+pub recs-ok : (p : Part) → Tapeable p → (payload : List ℕ) (s n : ℕ) (ws : List Step) → JobOk p s n ws → RecsOk (jobRecs p payload ws)
+unfolding jobRecs
+recs-ok p law payload s n [] J.none = none
+recs-ok p law payload s n (w ∷ ws) (J.next k ks) = ok-append (step-ok p law payload w (k .known)) (recs-ok p law payload _ n ws ks)
 
 -- ---- the length of the tape
 

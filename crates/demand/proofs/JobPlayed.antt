@@ -14,13 +14,14 @@ use Rattle.rules.specs.JobRefusals.{jobRefusal}
 use Rattle.rules.specs.Records.{jobRecs}
 use Rattle.rules.specs.Ready.{Ready}
 use Rattle.laws.proofs.JobPassed.{job-passed}
+use Rattle.laws.proofs.RecordOk.{RecsOk}
 use Rattle.demand.specs.Ignored.{ignoredIn}
 use Rattle.demand.proofs.Tapeable.{part-tapeable}
 use Rattle.demand.proofs.Fit.{Fit}
 use Rattle.demand.proofs.Accept.{JobOk, job-ok}
 use Rattle.demand.proofs.Demand3.{afterJob, demand3}
 use Rattle.demand.proofs.NoneIgnored.{none-ignored}
-use Rattle.demand.proofs.Holds.{RecsOk, recs-ok}
+use Rattle.demand.proofs.Holds.{recs-ok}
 
 -- none of 1 and 20 to 25
 pub accepted-ok : (part s : ℕ) (job : List ℕ) (n : ℕ) → jobRefusal part s job n .number ≡ 0 → JobOk (partOf part) s n (stepsOf job)
@@ -31,8 +32,8 @@ abbrev pub recsOfJob : ℕ → List ℕ → List ℕ → List Rec
 recsOfJob part job payload = jobRecs (partOf part) payload (stepsOf job)
 
 module _ (part s : ℕ) (job payload : List ℕ) (ok : jobRefusal part s job (length payload) .number ≡ 0) where
-  pub job-recs-ok : RecsOk payload (recsOfJob part job payload)
-  job-recs-ok = recs-ok payload (partOf part) (part-tapeable part) s (length payload) (stepsOf job) (accepted-ok part s job (length payload) ok)
+  pub job-recs-ok : RecsOk (recsOfJob part job payload)
+  job-recs-ok = recs-ok (partOf part) (part-tapeable part) payload s (length payload) (stepsOf job) (accepted-ok part s job (length payload) ok)
 
   -- "awake", "idle", "unlocked", at the setting that the job was translated for
   module _ (kept : Kept) (ready : Ready (partOf part) s kept) (l : List ℕ) (long : length l ≡ partOf part .size) (m : Meter) where

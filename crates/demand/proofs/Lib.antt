@@ -11,6 +11,5 @@ pub mod Pages
 pub mod Steps
 pub mod Demand3
 pub mod NoneIgnored
-pub mod Bytes
 pub mod Holds
 pub mod JobPlayed

@@ -2,10 +2,10 @@
 use mathlib.Core.Path.{_≡_, refl}
 use mathlib.Core.Bool.{true}
 use mathlib.Core.List.{_∷_}
-use Prim.Native.Nat.{ℕ, zero, suc, _*_, _/_, _%_, _≤_, _<_}
+use Prim.Native.Nat.{ℕ, suc, _*_, _/_, _%_, _≤_}
 use native.Mathlib.Omega.{arith}
 use lib.Dec.{lit≤}
-use lib.ListN.{length, getD}
+use lib.ListN.{length}
 use borrow.Author.Tests.{le-leb}
 use Rattle.lists.specs.Choice.{if_then_else_}
 use Rattle.rules.specs.declared.EraseUnit.{EraseUnit}
@@ -29,8 +29,7 @@ pub record Tapeable (p : Part) : Type 0 where
   pub five-or-mored : (n : ℕ) → 5 ≤ n → shaped p (codeOf (Writes Program)) n 0 ≡ true
   pub erase-shaped : (u : EraseUnit) (a : ℕ) → shaped p (codeOf (Writes (Erase u))) (length (eraseBytes u a)) 0 ≡ true
   pub guard-shaped : (g : ℕ) → g ≤ settingLimit → shaped p (codeOf (Writes WriteStatus)) (suc (length (p .guardBytes g))) 0 ≡ true
-  -- a guard's bytes are bytes, and fit a record
-  pub guard-bytes : (g : ℕ) → g ≤ settingLimit → (x : ℕ) → getD (p .guardBytes g) x 0 < 256
+  -- a guard's bytes fit a record
   pub guard-short : (g : ℕ) → g ≤ settingLimit → suc (length (p .guardBytes g)) ≤ sentLimit
   -- they make "this setting, and S7, S8, S9 become 0"
   pub guard-written : (r : Regs) (g : ℕ) → g ≤ settingLimit → p .statusWritten r (codeOf (Writes WriteStatus) ∷ p .guardBytes g) ≡ guarded r g
@@ -43,12 +42,6 @@ erases Sector a = refl
 erases Block32 a = refl
 erases Block64 a = refl
 erases Chip a = refl
-
-bytes : (g : ℕ) → g ≤ settingLimit → (x : ℕ) → getD (fmGuardBytes g) x 0 < 256
-unfolding fmGuardBytes
-bytes g h zero = omega arith
-bytes g h (suc zero) = omega arith
-bytes g h (suc (suc x)) = omega arith
 
 written : (r : Regs) (g : ℕ) → g ≤ settingLimit → fmStatusWritten r (codeOf (Writes WriteStatus) ∷ fmGuardBytes g) ≡ guarded r g
 unfolding fmStatusWritten fmGuardBytes fmFirst fmSecond if_then_else_
@@ -66,7 +59,6 @@ part-tapeable part =
       five-or-mored = λ n h. rw (le-leb 5 n h);
       erase-shaped = erases;
       guard-shaped = λ g h. refl;
-      guard-bytes = bytes;
       guard-short = λ g h. lit≤ tt;
       guard-written = written;
     }

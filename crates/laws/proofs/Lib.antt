@@ -6,4 +6,5 @@ pub mod Inside
 pub mod JobPassed
 pub mod NoWrite
 pub mod Protection
+pub mod RecordOk
 pub mod Sound

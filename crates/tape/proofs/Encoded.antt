@@ -1,26 +1,12 @@
 -- The bytes of records that fit a tape: how long they are, and what stands at their places.
 use mathlib.Core.Path.{_≡_, refl, sym, ap, _∙_}
-use mathlib.Core.Bool.{Bool}
 use mathlib.Core.List.{List, [], _∷_, _++_, append-assoc}
-use Prim.Native.Nat.{ℕ, _+_, _*_, _≤_}
+use Prim.Native.Nat.{ℕ, _+_, _*_}
 use native.Mathlib.Omega.{arith}
 use lib.ListN.{length, getD, drop, length-append, length-replicate}
 use lib.Seq.{getD-append-add, drop-append-add}
-use Rattle.rules.specs.Tape.{Rec, transaction, finish, powerCycle, encodeRec, encode}
-
--- a record that a tape can hold
-pub data RecOk : Rec → Type 0 where
-  transaction-ok : {b : List ℕ} {x : ℕ} {high : Bool} → length b ≤ 260 → x ≤ 7 → RecOk (transaction b x high)
-  finish-ok : RecOk finish
-  power-ok : RecOk powerCycle
-
-pub data RecsOk : List Rec → Type 0 where
-  none : RecsOk []
-  next : {r : Rec} {rs : List Rec} → RecOk r → RecsOk rs → RecsOk (r ∷ rs)
-
-pub ok-append : {rs qs : List Rec} → RecsOk rs → RecsOk qs → RecsOk (rs ++ qs)
-ok-append none k = k
-ok-append (next o h) k = next o (ok-append h k)
+use Rattle.rules.specs.Tape.{Rec, encodeRec, encode}
+use Rattle.laws.proofs.RecordOk.{RecOk, transaction-ok, finish-ok, power-ok, RecsOk, none, next}
 
 -- ---- lengths
 

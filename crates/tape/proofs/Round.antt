@@ -16,7 +16,8 @@ use Rattle.rules.specs.Status.{flag}
 use Rattle.rules.specs.Tape.{Rec, transaction, finish, powerCycle, sentLimit, bytesStart, leftoverOf, highOf, recAt, recsFrom, records, recsOf, whole, isZero, goodRecord, firstBad, encodeRec, encode}
 use Rattle.tape.specs.Record.{headGood}
 use Rattle.tape.proofs.Good.{good-from}
-use Rattle.tape.proofs.Encoded.{RecOk, transaction-ok, finish-ok, power-ok, RecsOk, none, next, rec-length, encode-length, at-place, from-place}
+use Rattle.laws.proofs.RecordOk.{RecOk, transaction-ok, finish-ok, power-ok, RecsOk, none, next}
+use Rattle.tape.proofs.Encoded.{rec-length, encode-length, at-place, from-place}
 
 -- byte 3 taken apart again
 record Bits (x : ℕ) (high : Bool) : Type 0 where

@@ -6,11 +6,12 @@ use Prim.Native.Nat.{ℕ, zero, suc, _+_, _-_, _*_, _≤_, _<_, min}
 use native.Mathlib.Omega.{arith}
 use lib.Dec.{leb}
 use borrow.Author.Tests.{leb-true, leb-false}
-use lib.ListN.{length, take, drop, length-append, length-take}
+use lib.ListN.{length, take, drop, length-take}
 use lib.Seq.{take-take, take-all, take-nil, drop-drop}
-use Rattle.rules.specs.Tape.{Rec, encode}
+use Rattle.rules.specs.Tape.{encode}
 use Rattle.rules.specs.Records.{three, addressBytes, roomAt, pageRecs}
-use Rattle.tape.proofs.Encoded.{RecsOk, none, next, transaction-ok, finish-ok, encode-length, encode-append}
+use Rattle.tape.proofs.Encoded.{encode-length, encode-append}
+use Rattle.demand.proofs.Holds.{three-ok}
 use Rattle.translate.specs.Spliced.{spliced}
 use Rattle.translate.proofs.Splices.{splice-none, splice-recs}
 
@@ -49,12 +50,6 @@ left-over r m d = go (leb r m) refl
         let f : m - min r m ≡ 0 = omega arith in
         rw (e, f)
 
-pub three-ok : (b : List ℕ) → length b ≤ 260 → RecsOk (three b)
-three-ok b h = next (transaction-ok {b = 0x06 ∷ []} {x = 0} (omega arith) (omega arith)) (next (transaction-ok {x = 0} h (omega arith)) (next finish-ok none))
-
-pub three-long : (b : List ℕ) → length b ≤ 260 → length (encode (three b)) ≡ 264 * 3
-three-long b h = encode-length (three-ok b h)
-
 -- page i of n, at address a, where `left` bytes of the payload are left from o on
 page-more : (n i a left o : ℕ) (payload : List ℕ) → i < n
     → encode (pageRecs (n - i) a (take left (drop o payload)))
@@ -81,7 +76,7 @@ lay-turn tape tape′ end k n i a left o count payload sent h room c e f inv =
     let y : ℕ → List ℕ = λ w. encode (pageRecs (n - (i + 1)) (a + roomAt a) (take (left - w) (drop (o + w) payload))) in
     let at : k + 3 * (i + 1) ≡ k + 3 * i + 3 = omega arith in
     let s = length-take (min (roomAt a) left) (drop o payload) in
-    let l : length x ≡ 264 * 3 = three-long (0x02 ∷ addressBytes a ++ take (min (roomAt a) left) (drop o payload)) (omega (arith, s)) in
+    let l : length x ≡ 264 * 3 = encode-length (three-ok (0x02 ∷ addressBytes a ++ take (min (roomAt a) left) (drop o payload)) (omega (arith, s))) in
     ap (λ (w : List ℕ). spliced w (264 * (k + 3 * (i + 1))) (y count)) (f ∙ ap (λ (w : List ℕ). spliced tape (264 * (k + 3 * i)) (encode (three (0x02 ∷ addressBytes a ++ w)))) q)
     ∙ (λ t. spliced (spliced tape (264 * (k + 3 * i)) x) (264 * at t) (y (c t)))
     ∙ splice-recs tape (k + 3 * i) 3 x (y (min (roomAt a) left)) l (omega arith)

@@ -7,7 +7,8 @@ use lib.ListN.{length, take, drop, length-append, length-take, length-drop, take
 use lib.Seq.{take-at, drop-at, length-take-le, take-append-add, drop-append-add, drop-drop, take-take}
 use borrow.Rule.Slice.PartMut.{putMid, post-is}
 use Rattle.rules.specs.Tape.{Rec, encodeRec}
-use Rattle.tape.proofs.Encoded.{RecOk, rec-length}
+use Rattle.laws.proofs.RecordOk.{RecOk}
+use Rattle.tape.proofs.Encoded.{rec-length}
 use Rattle.translate.specs.Spliced.{spliced, Fits}
 
 -- record k's place was lent, and left as ys, the bytes of r

@@ -1,59 +1,40 @@
--- The records of a whole job: how many, that each fits its place on the tape, and step after step.
+-- The records of a whole job: that each fits its place on the tape, how many, and step after step.
 use mathlib.Core.Path.{_≡_, refl, sym, ap, _∙_}
-use mathlib.Core.List.{List, [], _∷_, _++_}
-use Prim.Native.Nat.{ℕ, zero, suc, _+_, _-_, _*_, _≤_, _<_}
+use mathlib.Core.List.{List, _++_}
+use Prim.Native.Nat.{ℕ, suc, _+_, _-_, _*_, _≤_, _<_}
 use native.Mathlib.Omega.{arith}
 use native.Mathlib.Numerals.{add-one}
-use lib.ListN.{length, take, drop, length-append, length-take}
-use Rattle.rules.specs.declared.EraseUnit.{EraseUnit}
-use Rattle.rules.specs.declared.EraseUnit.the-variants.{Sector, Block32, Block64, Chip}
+use lib.ListN.{length, length-append}
 use Rattle.rules.specs.declared.Step.{Step}
 use Rattle.rules.specs.declared.Step.the-variants.{Erase, Lay, Guard}
 use Rattle.rules.specs.declared.Decoded.{Decoded}
 use Rattle.rules.specs.declared.Decoded.the-variants.{Good, Bad}
 use Rattle.rules.specs.Part.{Part}
-use Rattle.rules.specs.Fm25q16.{fmGuardBytes, fm25q16}
 use Rattle.rules.specs.Parts.{partOf}
 use Rattle.rules.specs.Tape.{Rec, encode}
-use Rattle.rules.specs.Job.{stepAt, stepsFrom, stepsOf, withStep, layBytes}
-use Rattle.rules.specs.Records.{addressBytes, eraseBytes, roomAt, pageRecs, pagesTouched, stepRecs, jobRecs, billOf}
+use Rattle.rules.specs.Job.{settingLimit, stepAt, stepsFrom, stepsOf, withStep, layBytes, settingMeant}
+use Rattle.rules.specs.JobRefusals.{jobRefusal}
+use Rattle.rules.specs.Records.{pagesTouched, stepRecs, jobRecs, billOf}
 use Rattle.rules.specs.Translate.{tapeOf}
-use Rattle.tape.proofs.Encoded.{RecsOk, none, ok-append, encode-length, encode-append}
-use Rattle.demand.proofs.Holds.{pages-long, recs-long}
+use Rattle.laws.proofs.RecordOk.{RecsOk, none}
+use Rattle.tape.proofs.Encoded.{encode-length, encode-append}
+use Rattle.demand.proofs.Tapeable.{part-tapeable}
+use Rattle.demand.proofs.Holds.{step-ok, pages-long, recs-long}
+use Rattle.demand.proofs.JobPlayed.{job-recs-ok}
 use Rattle.translate.specs.Spliced.{spliced}
 use Rattle.translate.specs.Writable.{Writable, recordCount, decodedRecs, decodedCount}
 use Rattle.translate.proofs.Splices.{splice-none, splice-recs}
-use Rattle.translate.proofs.Pages.{three-ok}
 
 -- ---- each record fits its place
 
-pages-ok : (n a : ℕ) (bs : List ℕ) → RecsOk (pageRecs n a bs)
-unfolding pageRecs
-pages-ok zero a bs = none
-pages-ok (suc n) a bs =
-    let s = length-take (roomAt a) bs in
-    ok-append (three-ok (0x02 ∷ addressBytes a ++ take (roomAt a) bs) (omega (arith, s))) (pages-ok n (a + roomAt a) (drop (roomAt a) bs))
+guard-known : (p : Part) (payload : List ℕ) (w : Step) → Writable p payload w → settingMeant 0 w ≤ settingLimit
+guard-known p payload (Erase u a) h = omega arith
+guard-known p payload (Lay s) h = omega arith
+guard-known p payload (Guard g) h = h .guards g refl
 
-erase-short : (u : EraseUnit) (a : ℕ) → length (eraseBytes u a) ≤ 260
-erase-short Sector a = omega arith
-erase-short Block32 a = omega arith
-erase-short Block64 a = omega arith
-erase-short Chip a = omega arith
-
-step-ok : (part : ℕ) (payload : List ℕ) (w : Step) → RecsOk (stepRecs (partOf part) payload w)
-unfolding partOf fm25q16 fmGuardBytes
-step-ok part payload (Erase u a) = three-ok (eraseBytes u a) (erase-short u a)
-step-ok part payload (Lay s) = pages-ok (pagesTouched (s .address) (s .length)) (s .address) (layBytes payload s)
-step-ok part payload (Guard g) = three-ok (0x01 ∷ partOf part .guardBytes g) (omega arith)
-
-pub job-ok : (part : ℕ) (payload : List ℕ) (ws : List Step) → RecsOk (jobRecs (partOf part) payload ws)
-unfolding jobRecs
-job-ok part payload [] = none
-job-ok part payload (w ∷ ws) = ok-append (step-ok part payload w) (job-ok part payload ws)
-
-decoded-ok : (part : ℕ) (payload : List ℕ) (d : Decoded) → RecsOk (decodedRecs (partOf part) payload d)
-decoded-ok part payload (Good w) = step-ok part payload w
-decoded-ok part payload Bad = none
+decoded-ok : (part : ℕ) (payload : List ℕ) (d : Decoded) → ((w : Step) → d ≡ Good w → Writable (partOf part) payload w) → RecsOk (decodedRecs (partOf part) payload d)
+decoded-ok part payload (Good w) h = step-ok (partOf part) (part-tapeable part) payload w (guard-known (partOf part) payload w (h w refl))
+decoded-ok part payload Bad h = none
 
 -- ---- how many they are
 
@@ -66,11 +47,11 @@ pub decoded-count : (p : Part) (payload : List ℕ) (d : Decoded) → length (de
 decoded-count p payload (Good w) = step-count p payload w
 decoded-count p payload Bad = refl
 
--- the tape is as long as the bill says
-pub tape-long : (part : ℕ) (job payload : List ℕ) → length (tapeOf (partOf part) job payload) ≡ billOf (stepsOf job) .length
+-- the tape of an accepted job is as long as the bill says
+pub tape-long : (part s : ℕ) (job payload : List ℕ) → jobRefusal part s job (length payload) .number ≡ 0 → length (tapeOf (partOf part) job payload) ≡ billOf (stepsOf job) .length
 unfolding tapeOf
-tape-long part job payload =
-    let e = encode-length (job-ok part payload (stepsOf job)) in
+tape-long part s job payload ok =
+    let e = encode-length (job-recs-ok part s job payload ok) in
     let f = recs-long (partOf part) payload (stepsOf job) in
     e ∙ omega (arith, f)
 
@@ -102,15 +83,16 @@ room-next part payload job i n k t h r =
     omega (arith, e, f)
 
 -- one step put: what is left to do gives the same in the end
-pub step-turn : (part : ℕ) (payload job tape tape′ end : List ℕ) (i n k : ℕ) → i < n → 264 * (k + decodedCount (stepAt job i)) ≤ length tape
+pub step-turn : (part : ℕ) (payload job tape tape′ end : List ℕ) (i n k : ℕ) → i < n → ((w : Step) → stepAt job i ≡ Good w → Writable (partOf part) payload w)
+    → 264 * (k + decodedCount (stepAt job i)) ≤ length tape
     → tape′ ≡ spliced tape (264 * k) (encode (decodedRecs (partOf part) payload (stepAt job i)))
     → spliced tape (264 * k) (encode (restRecs part payload job i (n - i))) ≡ end
     → spliced tape′ (264 * (k + decodedCount (stepAt job i))) (encode (restRecs part payload job (i + 1) (n - (i + 1)))) ≡ end
-step-turn part payload job tape tape′ end i n k h room f inv =
+step-turn part payload job tape tape′ end i n k h can room f inv =
     let d = decodedRecs (partOf part) payload (stepAt job i) in
     let rest = restRecs part payload job (i + 1) (n - (i + 1)) in
     let c = decodedCount (stepAt job i) in
-    let l = encode-length (decoded-ok part payload (stepAt job i)) ∙ ap (λ (w : ℕ). 264 * w) (decoded-count (partOf part) payload (stepAt job i)) in
+    let l = encode-length (decoded-ok part payload (stepAt job i) can) ∙ ap (λ (w : ℕ). 264 * w) (decoded-count (partOf part) payload (stepAt job i)) in
     ap (λ (w : List ℕ). spliced w (264 * (k + c)) (encode rest)) f
     ∙ splice-recs tape k c (encode d) (encode rest) l room
     ∙ ap (spliced tape (264 * k)) (sym (encode-append d rest) ∙ ap encode (sym (recs-next part payload job i n h)))

@@ -1,5 +1,5 @@
 use Rattle.translate.proofs.Splices.{put-record}
-use Rattle.tape.proofs.Encoded.{finish-ok}
+use Rattle.laws.proofs.RecordOk.{finish-ok}
 use borrow.Author.Needs.{needs}
 use Rattle.translate.proofs.put_end.Statement.{statement}
 use Rattle.translate.proofs.put_end.Tie as tie

@@ -1,5 +1,5 @@
 use Rattle.translate.proofs.Splices.{put-record}
-use Rattle.tape.proofs.Encoded.{transaction-ok}
+use Rattle.laws.proofs.RecordOk.{transaction-ok}
 use native.Mathlib.Omega.{arith}
 use borrow.Author.Needs.{needs}
 use Rattle.translate.proofs.put_sent.Statement.{statement}

@@ -68,13 +68,14 @@ loop-again c =
     let u : c .before .before .put-decoded .result ≡ l .k + decodedCount (stepAt (a .job .now) (l .i)) = q .0 ∙ ap (λ (d : Decoded). l .k + decodedCount d) t in
     let h = c .before .before .before .before .before .loop-test .taken in
     let r = room-next (a .part) (a .payload .now) (a .job .now) (l .i) n (l .k) (a .tape .now) h (l .inv .3) in
-    let few = count-few (partOf (a .part)) (a .payload .now) (stepAt (a .job .now) (l .i)) (λ w e. s .pre .0 .each (l .i) h w e) in (
+    let can = s .pre .0 .each (l .i) h in
+    let few = count-few (partOf (a .part)) (a .payload .now) (stepAt (a .job .now) (l .i)) can in (
       omega arith,
       omega (arith, u, few),
       c .before .before .put-decoded .kept .1 .0 ∙ l .inv .2,
       subst (λ (k : ℕ). 264 * (k + length (restRecs (a .part) (a .payload .now) (a .job .now) (l .i + 1) (n - (l .i + 1)))) ≤ length (a .tape .now)) (sym u) r,
       subst (λ (k : ℕ). spliced (c .before .before .put-decoded .last .1 .0) (264 * k) (encode (restRecs (a .part) (a .payload .now) (a .job .now) (l .i + 1) (n - (l .i + 1)))) ≡ spliced (a .tape .now) 0 (encode (restRecs (a .part) (a .payload .now) (a .job .now) 0 n))) (sym u)
-          (step-turn (a .part) (a .payload .now) (a .job .now) (l .tape) _ _ (l .i) n (l .k) h (omega (arith, r, l .inv .2))
+          (step-turn (a .part) (a .payload .now) (a .job .now) (l .tape) _ _ (l .i) n (l .k) h can (omega (arith, r, l .inv .2))
           (q .1 ∙ ap (λ (d : Decoded). spliced (l .tape) (264 * l .k) (encode (decodedRecs (partOf (a .part)) (a .payload .now) d))) t) (l .inv .4)),
     )
 

@@ -1,6 +1,7 @@
 use Rattle.translate.proofs.Splices.{splice-recs}
 use Rattle.translate.specs.Spliced.{spliced}
-use Rattle.tape.proofs.Encoded.{rec-length, transaction-ok, finish-ok}
+use Rattle.laws.proofs.RecordOk.{transaction-ok}
+use Rattle.tape.proofs.Encoded.{rec-length}
 use Rattle.rules.specs.Tape.{transaction, finish, encodeRec, encode}
 use lib.ListN.{length, length-append}
 use native.Mathlib.Omega.{arith}

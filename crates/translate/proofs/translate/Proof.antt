@@ -37,7 +37,7 @@ bill-of-requires c κs = accepted-counted _ _ _ _ (ok c)
 returns-2 : tie.Need-returns-2
 returns-2 c =
     let a = c .before .before .before .before .before .before .before .args in
-    let n = ap (λ (b : Bill). b .length) (c .before .bill-of .ensures) ∙ sym (tape-long (a .part) (a .job .now) (a .payload .now)) in
+    let n = ap (λ (b : Bill). b .length) (c .before .bill-of .ensures) ∙ sym (tape-long (a .part) (a .s) (a .job .now) (a .payload .now) (ok (c .before .before))) in
     translate-small (a .part) (a .s) (a .job .now) (a .payload .now) (a .tape .now) (ok (c .before .before)) (omega (arith, n, c .if2 .taken))
 
 put-steps-requires : tie.Need-put-steps-requires
@@ -55,7 +55,7 @@ unfolding tapeOf
 returns-3 c =
     let a = c .before .before .before .before .before .before .before .before .before .before .before .args in
     let w = tapeOf (partOf (a .part)) (a .job .now) (a .payload .now) in
-    let n = ap (λ (b : Bill). b .length) (c .before .before .before .before .before .bill-of .ensures) ∙ sym (tape-long (a .part) (a .job .now) (a .payload .now)) in
+    let n = ap (λ (b : Bill). b .length) (c .before .before .before .before .before .bill-of .ensures) ∙ sym (tape-long (a .part) (a .s) (a .job .now) (a .payload .now) (ok (c .before .before .before .before .before .before))) in
     (λ i. translateSeen (translateTold (Written (n i))) ((c .before .before .put-steps .ensures ∙ splice-front (a .tape .now) w) i))
     ∙ translate-served (a .part) (a .s) (a .job .now) (a .payload .now) (a .tape .now) (ok (c .before .before .before .before .before .before)) (omega (arith, n, c .before .before .before .before .if2 .left))
 
