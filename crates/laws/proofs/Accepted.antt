@@ -6,7 +6,7 @@ use native.Mathlib.Omega.{arith}
 use lib.Dec.{eqb}
 use borrow.Author.Tests.{ltb-false, eqb-true, eqb-false, leb-true, not-false, eq-eqb}
 use Rattle.lists.specs.Choice.{if_then_else_, _=?_, _<?_, _≤?_}
-use Rattle.lists.proofs.Choice.{both-true}
+use Rattle.lists.proofs.Choice.{took-other, both-true}
 use Rattle.rules.specs.declared.Kept.{Kept}
 use Rattle.rules.specs.declared.Meter.{Meter}
 use Rattle.rules.specs.declared.Refusal.{Refusal}
@@ -18,9 +18,7 @@ use Rattle.laws.specs.Room.{Room}
 
 -- a check that does not refuse was passed, and so were those after it
 pub passed : (t : Bool) (k : ℕ) (w : Refusal) → 0 < k → (if t then refusal k else w) .number ≡ 0 → (t ≡ false) × (w .number ≡ 0)
-unfolding if_then_else_
-passed true k w h e = absurd (omega arith)
-passed false k w h e = (refl, e)
+passed t k w h = took-other (λ (z : Refusal). z .number ≡ 0) t (refusal k) w (λ q. omega arith)
 
 -- where neither of two refuses
 pub neither : (z y : Refusal) → (z orElse y) .number ≡ 0 → (z .number ≡ 0) × (y .number ≡ 0)

@@ -7,6 +7,7 @@ use native.Mathlib.Omega.{arith}
 use lib.ListN.{length, getD}
 use borrow.Author.Tests.{eqb-false, ne-eqb, not-false}
 use Rattle.lists.specs.Choice.{if_then_else_, _=?_}
+use Rattle.lists.proofs.Choice.{took-other}
 use Rattle.lists.specs.declared.Found.{Found}
 use Rattle.lists.specs.declared.Found.the-variants.{At, Nothing}
 use Rattle.rules.specs.declared.Regs.{Regs}
@@ -70,9 +71,7 @@ pub record Passed (p : Part) (r : Regs) (b : List ℕ) (x : ℕ) (high : Bool) (
 
 -- a choice that is carried out took its other side
 other : (t : Bool) (n : ℕ) (v : Verdict) (k : Kind) → (if t then ignored n else v) ≡ CarriedOut k → (t ≡ false) × (v ≡ CarriedOut k)
-unfolding if_then_else_
-other true n v k e = let z : _≡_ {A = ℕ} 0 1 = cc in absurd (omega arith)
-other false n v k e = (refl, e)
+other t n v k = took-other (λ (w : Verdict). w ≡ CarriedOut k) t (ignored n) v (λ q. let z : _≡_ {A = ℕ} 0 1 = cc in omega arith)
 
 unprotected : (j k : Kind) (f : Found) → protectionVerdict j f ≡ CarriedOut k → (j ≡ k) × (f ≡ Nothing)
 unprotected j k (At y) e = let z : _≡_ {A = ℕ} 0 1 = cc in absurd (omega arith)

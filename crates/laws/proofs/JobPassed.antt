@@ -1,11 +1,12 @@
 -- What the absence of a refusal says of a job and of each of its steps.
 use mathlib.Core.Path.{_≡_, refl}
-use mathlib.Core.Bool.{Bool, true, false, not}
+use mathlib.Core.Bool.{true, false, not}
 use mathlib.Core.List.{List}
-use Prim.Native.Nat.{ℕ, suc, _+_, _≤_, _<_}
+use Prim.Native.Nat.{ℕ, suc, _+_, _≤_}
 use native.Mathlib.Omega.{arith}
 use borrow.Author.Tests.{ltb-false, not-false}
-use Rattle.lists.specs.Choice.{if_then_else_, _<?_}
+use Rattle.lists.specs.Choice.{_<?_}
+use Rattle.lists.proofs.Choice.{took-other}
 use Rattle.lists.specs.declared.Found.{Found}
 use Rattle.lists.specs.declared.Found.the-variants.{At, Nothing}
 use Rattle.rules.specs.declared.Span.{Span}
@@ -50,17 +51,12 @@ pub step-bare : (p : Part) (s : ℕ) (w : Step) → shielded p s w ≡ false →
 unfolding shielded
 step-bare p s w e = none-found (firstProtected p s (stepStart w) (stepReach p w)) e
 
-number-passed : (t : Bool) (k n : ℕ) → 0 < k → (if t then k else n) ≡ 0 → (t ≡ false) × (n ≡ 0)
-unfolding if_then_else_
-number-passed true k n h e = absurd (omega arith)
-number-passed false k n h e = (refl, e)
-
 decoded-passed : (p : Part) (s n : ℕ) (d : Decoded) → settingAfter 0 d ≤ settingLimit → decodedNumber p s n d ≡ 0 → StepPassed p s n d
 unfolding stepNumber
 decoded-passed p s n (Good w) k e =
-    let a = number-passed (outside p w) 23 _ (omega arith) e in
-    let b = number-passed (beyond n w) 24 _ (omega arith) (a .1) in
-    let c = number-passed (shielded p s w) 25 _ (omega arith) (b .1) in
+    let a = took-other (λ (k : ℕ). k ≡ 0) (outside p w) 23 _ (λ q. omega arith) e in
+    let b = took-other (λ (k : ℕ). k ≡ 0) (beyond n w) 24 _ (λ q. omega arith) (a .1) in
+    let c = took-other (λ (k : ℕ). k ≡ 0) (shielded p s w) 25 _ (λ q. omega arith) (b .1) in
     record { step = w; good = refl; ok = record { inside = a .0; covered = b .0; bare = c .0; known = k } }
 decoded-passed p s n Bad k e = absurd (omega arith)
 

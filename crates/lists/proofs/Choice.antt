@@ -20,6 +20,12 @@ unfolding if_then_else_
 by-choice P true a b h k = h
 by-choice P false a b h k = k
 
+-- what holds of a choice, but not of its first side, holds of its other
+pub took-other : {A : Type 0} (P : A → Type 0) (t : Bool) (a b : A) → (P a → ⊥) → P (if t then a else b) → (t ≡ false) × P b
+unfolding if_then_else_
+took-other P true a b h e = absurd (h e)
+took-other P false a b h e = (refl, e)
+
 pub both-true : (s t : Bool) → (s && t) ≡ true → (s ≡ true) × (t ≡ true)
 both-true true t e = (refl, e)
 both-true false t e = let z : _≡_ {A = ℕ} 0 1 = cc in absurd (omega arith)
