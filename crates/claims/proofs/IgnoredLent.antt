@@ -1,6 +1,6 @@
 -- What a caller of `transact` is left with after an ignored command: FF on the first n output bytes, the registers and the
 -- array that were handed in, and one more ignored on the meter.
-use mathlib.Core.Path.{_≡_, refl, sym, ap, _∙_}
+use mathlib.Core.Path.{_≡_, refl}
 use mathlib.Core.Bool.{Bool, true, false}
 use mathlib.Core.List.{List, _++_}
 use Prim.Native.Nat.{ℕ, _≤_}
@@ -24,7 +24,6 @@ use Rattle.rules.specs.Transaction.{turnBy, turnOf}
 use Rattle.rules.specs.Refusals.{accepted, transactRefusal}
 use Rattle.rules.specs.Transact.{TransactSeen, isHigh, transactServed, transactRefused, transactBy, transactOf}
 use Rattle.laws.proofs.Accepted.{taken}
-use Rattle.claims.proofs.NumbersTell.{isVerdict}
 use Rattle.claims.proofs.RoundTrip.{kept-back}
 
 -- what is seen of a transaction that changed one count

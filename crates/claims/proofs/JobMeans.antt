@@ -2,8 +2,7 @@
 use mathlib.Core.Path.{_≡_, refl, sym, ap, _∙_, subst}
 use mathlib.Core.Bool.{Bool, true, false}
 use mathlib.Core.List.{List, _++_}
-use Prim.Native.Nat.{ℕ, _+_, _*_}
-use lib.Dec.{eqb}
+use Prim.Native.Nat.{ℕ, _+_}
 use lib.ListN.{length, take, drop}
 use lib.Seq.{take-append-seam, take-length}
 use borrow.Author.Tests.{eqb-true, eq-eqb}
@@ -18,13 +17,13 @@ use Rattle.rules.specs.declared.Quoted.the-variants as Q
 use Rattle.rules.specs.Parts.{isPart, partOf}
 use Rattle.rules.specs.Status.{regsOf, keptOf}
 use Rattle.rules.specs.Refusals.{accepted, _orElse_}
-use Rattle.rules.specs.Tape.{Rec, encode, records, recsOf, firstBad}
+use Rattle.rules.specs.Tape.{Rec, records, recsOf}
 use Rattle.rules.specs.Play.{State, state, play}
 use Rattle.rules.specs.Replay.{recordsRefusal, replayRefusal, replaySeen, replayOf}
 use Rattle.rules.specs.Job.{stepsOf, arrayMeant, allRegsMeant}
 use Rattle.rules.specs.JobRefusals.{jobRefusal}
 use Rattle.rules.specs.Records.{jobRecs, billOf}
-use Rattle.rules.specs.Translate.{tapeOf, translateRefusal, TranslateSeen, translateTold, translateSeen, translateBy, translateOf, quoteTold, quoteBy, quoteOf}
+use Rattle.rules.specs.Translate.{tapeOf, translateRefusal, translateTold, translateSeen, translateBy, translateOf, quoteTold, quoteBy, quoteOf}
 use Rattle.rules.specs.Ready.{Ready, Roomy}
 use Rattle.laws.proofs.Accepted.{neither}
 use Rattle.laws.proofs.JobPassed.{job-passed}

@@ -43,9 +43,9 @@ use Rattle.claims.proofs.Ignored.{ignored-number}
 
 -- ---- the statement
 
-unfoldable pub OneOf : List ℕ → ℕ → Type 0
-OneOf [] n = ⊥
-OneOf (k ∷ ks) n = (n ≡ k) ⊎ OneOf ks n
+unfoldable pub InRow : List ℕ → ℕ → Type 0
+InRow [] n = ⊥
+InRow (k ∷ ks) n = (n ≡ k) ⊎ InRow ks n
 
 -- 0 carried out, or 10 to 16
 abbrev pub VerdictNumber : ℕ → Type 0
@@ -57,46 +57,46 @@ Zero n = n ≡ 0
 -- the number of an answer that was served is one of Fine, and else it stands in the row of refusals
 pub record Tells (Fine : ℕ → Type 0) (row : List ℕ) (served : Bool) (number : ℕ) : Type 0 where
   pub of-served : served ≡ true → Fine number
-  pub of-refused : served ≡ false → OneOf row number
+  pub of-refused : served ≡ false → InRow row number
 
 -- ---- rows
 
-later : (row ks : List ℕ) (n : ℕ) → OneOf ks n → OneOf (row ++ ks) n
-unfolding OneOf
+later : (row ks : List ℕ) (n : ℕ) → InRow ks n → InRow (row ++ ks) n
+unfolding InRow
 later [] ks n h = h
 later (k ∷ row) ks n h = inr (later row ks n h)
 
 -- a number of a row that ends with 0, but not that 0, is still there with another end
-earlier : (row ks : List ℕ) (n : ℕ) → (n ≡ 0 → ⊥) → OneOf (row ++ (0 ∷ [])) n → OneOf (row ++ ks) n
-unfolding OneOf
+earlier : (row ks : List ℕ) (n : ℕ) → (n ≡ 0 → ⊥) → InRow (row ++ (0 ∷ [])) n → InRow (row ++ ks) n
+unfolding InRow
 earlier [] ks n z h = ⊎-elim (λ e. absurd (z e)) (λ e. absurd e) h
 earlier (k ∷ row) ks n z h = ⊎-elim inl (λ e. inr (earlier row ks n z e)) h
 
 -- a check adds its own number
-check : {S : Type 0} (number : S → ℕ) (t : Bool) (a w : S) (ks : List ℕ) → OneOf ks (number w) → OneOf (number a ∷ ks) (number (if t then a else w))
-unfolding OneOf if_then_else_
+check : {S : Type 0} (number : S → ℕ) (t : Bool) (a w : S) (ks : List ℕ) → InRow ks (number w) → InRow (number a ∷ ks) (number (if t then a else w))
+unfolding InRow if_then_else_
 check number true a w ks h = inl refl
 check number false a w ks h = inr h
 
 abbrev num : Refusal → ℕ
 num z = z .number
 
-no-refusal : OneOf (0 ∷ []) 0
-unfolding OneOf
+no-refusal : InRow (0 ∷ []) 0
+unfolding InRow
 no-refusal = inl refl
 
-else-row : (row ks : List ℕ) (z y : Refusal) → OneOf (row ++ (0 ∷ [])) (z .number) → OneOf ks (y .number) → OneOf (row ++ ks) ((z orElse y) .number)
+else-row : (row ks : List ℕ) (z y : Refusal) → InRow (row ++ (0 ∷ [])) (z .number) → InRow ks (y .number) → InRow (row ++ ks) ((z orElse y) .number)
 unfolding _orElse_ if_then_else_
 else-row row ks z y h k = go (eqb (z .number) 0) refl
   where
-    go : (t : Bool) → eqb (z .number) 0 ≡ t → OneOf (row ++ ks) ((if t then y else z) .number)
+    go : (t : Bool) → eqb (z .number) 0 ≡ t → InRow (row ++ ks) ((if t then y else z) .number)
     go true e = later row ks (y .number) k
     go false e = earlier row ks (z .number) (eqb-false (z .number) 0 e) h
 
 -- ---- an entry answers a where it does not refuse, and else b
 
 tells : {S : Type 0} (served : S → Bool) (number : S → ℕ) (Fine : ℕ → Type 0) (row : List ℕ) (z : Refusal) (a b : S)
-    → served a ≡ true → Fine (number a) → served b ≡ false → number b ≡ z .number → OneOf (row ++ (0 ∷ [])) (z .number)
+    → served a ≡ true → Fine (number a) → served b ≡ false → number b ≡ z .number → InRow (row ++ (0 ∷ [])) (z .number)
     → Tells Fine (row ++ []) (served (if accepted z then a else b)) (number (if accepted z then a else b))
 unfolding if_then_else_
 tells served number Fine row z a b fa fine fb same h = go (eqb (z .number) 0) refl
@@ -115,7 +115,7 @@ verdict-number : (p : Part) (r : Regs) (b : List ℕ) (x : ℕ) (high : Bool) (v
 verdict-number p r b x high (CarriedOut k) e = inl refl
 verdict-number p r b x high (Ignored w) e = inr (ignored-number p r b x high w e)
 
-pub transact-row : (part al : ℕ) (kept : Kept) (n x ol : ℕ) (m : Meter) → OneOf (1 ∷ 2 ∷ 3 ∷ 4 ∷ 5 ∷ 6 ∷ 7 ∷ 0 ∷ []) (transactRefusal part al kept n x ol m .number)
+pub transact-row : (part al : ℕ) (kept : Kept) (n x ol : ℕ) (m : Meter) → InRow (1 ∷ 2 ∷ 3 ∷ 4 ∷ 5 ∷ 6 ∷ 7 ∷ 0 ∷ []) (transactRefusal part al kept n x ol m .number)
 unfolding transactRefusal
 transact-row part al kept n x ol m =
     check num _ (refusal 1) _ _ (check num _ (refusal 2) _ _ (check num _ (refusal 3) _ _ (check num _ (refusal 4) _ _
@@ -148,12 +148,12 @@ power-cycle-number-tells part kept = event-tells part kept _
 
 -- ---- replay, of all records or of the first k: 0 against 1, 2, 3, 30, 31 and 7
 
-bad-row : (f : Found) → OneOf (31 ∷ 0 ∷ []) (badRecord f .number)
-unfolding OneOf
+bad-row : (f : Found) → InRow (31 ∷ 0 ∷ []) (badRecord f .number)
+unfolding InRow
 bad-row (At i) = inl refl
 bad-row Nothing = inr (inl refl)
 
-replay-row : (part al : ℕ) (kept : Kept) (m : Meter) (t : List ℕ) → OneOf (1 ∷ 2 ∷ 3 ∷ 30 ∷ 31 ∷ 7 ∷ 0 ∷ []) (replayRefusal part al kept m t .number)
+replay-row : (part al : ℕ) (kept : Kept) (m : Meter) (t : List ℕ) → InRow (1 ∷ 2 ∷ 3 ∷ 30 ∷ 31 ∷ 7 ∷ 0 ∷ []) (replayRefusal part al kept m t .number)
 unfolding replayRefusal recordsRefusal
 replay-row part al kept m t =
     check num _ (refusal 1) _ _ (check num _ (refusal 2) _ _ (check num _ (refusal 3) _ _ (check num _ (refusal 30) _ _
@@ -173,20 +173,20 @@ replay-number-tells part kept m l t = replay-first-number-tells part kept m l t 
 
 -- ---- translate and quote: 0 against 1, 20 to 25, and 26 of translate alone
 
-decoded-row : (p : Part) (s pl : ℕ) (d : Decoded) → OneOf (22 ∷ 23 ∷ 24 ∷ 25 ∷ 0 ∷ []) (decodedNumber p s pl d)
-unfolding OneOf stepNumber
+decoded-row : (p : Part) (s pl : ℕ) (d : Decoded) → InRow (22 ∷ 23 ∷ 24 ∷ 25 ∷ 0 ∷ []) (decodedNumber p s pl d)
+unfolding InRow stepNumber
 decoded-row p s pl Bad = inl refl
 decoded-row p s pl (Good w) =
     inr (check (λ n. n) _ 23 _ (24 ∷ 25 ∷ 0 ∷ []) (check (λ n. n) _ 24 _ (25 ∷ 0 ∷ []) (check (λ n. n) _ 25 0 (0 ∷ []) no-refusal)))
 
-steps-row : (p : Part) (s pl : ℕ) (job : List ℕ) (i n : ℕ) → OneOf (22 ∷ 23 ∷ 24 ∷ 25 ∷ 0 ∷ []) (stepsRefusal p s pl job i n .number)
+steps-row : (p : Part) (s pl : ℕ) (job : List ℕ) (i n : ℕ) → InRow (22 ∷ 23 ∷ 24 ∷ 25 ∷ 0 ∷ []) (stepsRefusal p s pl job i n .number)
 unfolding stepsRefusal _orElse_
 steps-row p s pl job i zero = later (22 ∷ 23 ∷ 24 ∷ 25 ∷ []) (0 ∷ []) 0 no-refusal
 steps-row p s pl job i (suc n) =
-    by-choice (λ (z : Refusal). OneOf (22 ∷ 23 ∷ 24 ∷ 25 ∷ 0 ∷ []) (z .number)) _ _ _
+    by-choice (λ (z : Refusal). InRow (22 ∷ 23 ∷ 24 ∷ 25 ∷ 0 ∷ []) (z .number)) _ _ _
     (steps-row p (settingAfter s (stepAt job i)) pl job (suc i) n) (decoded-row p s pl (stepAt job i))
 
-job-row : (part s : ℕ) (job : List ℕ) (pl : ℕ) → OneOf (1 ∷ 20 ∷ 21 ∷ 22 ∷ 23 ∷ 24 ∷ 25 ∷ 0 ∷ []) (jobRefusal part s job pl .number)
+job-row : (part s : ℕ) (job : List ℕ) (pl : ℕ) → InRow (1 ∷ 20 ∷ 21 ∷ 22 ∷ 23 ∷ 24 ∷ 25 ∷ 0 ∷ []) (jobRefusal part s job pl .number)
 unfolding jobRefusal
 job-row part s job pl =
     check num _ (refusal 1) _ _ (check num _ (refusal 20) _ _ (check num _ (refusal 21) _ _ (steps-row (partOf part) s pl job 0 (stepCount job))))
@@ -214,8 +214,8 @@ unfoldable pub holdsIn : (ℕ → Bool) → List ℕ → Bool
 holdsIn f [] = false
 holdsIn f (k ∷ ks) = f k || holdsIn f ks
 
-pub none-holds : (f : ℕ → Bool) (row : List ℕ) (n : ℕ) → holdsIn f row ≡ false → OneOf row n → f n ≡ false
-unfolding OneOf holdsIn
+pub none-holds : (f : ℕ → Bool) (row : List ℕ) (n : ℕ) → holdsIn f row ≡ false → InRow row n → f n ≡ false
+unfolding InRow holdsIn
 none-holds f [] n h k = absurd k
 none-holds f (x ∷ row) n h k =
     let e = either-false (f x) (holdsIn f row) h in

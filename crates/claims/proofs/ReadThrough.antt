@@ -1,6 +1,6 @@
 -- A whole tape read through the reader: its k-th read answers record k, and every read after the last answers the end.
 use mathlib.Core.Path.{_≡_, refl, sym, ap, _∙_}
-use mathlib.Core.Bool.{Bool, true, false, not}
+use mathlib.Core.Bool.{Bool, true, false}
 use mathlib.Core.List.{List}
 use Prim.Native.Nat.{ℕ, zero, suc, _+_, _≤_, _<_}
 use native.Mathlib.Omega.{arith}
@@ -9,7 +9,6 @@ use lib.Dec.{eqb, leb}
 use borrow.Author.Tests.{le-leb, leb-true, leb-false}
 use denote.Ref.{now}
 use Rattle.lists.specs.Choice.{if_then_else_}
-use Rattle.rules.specs.declared.AtPlace.{AtPlace}
 use Rattle.rules.specs.declared.AtPlace.the-variants.{Transaction, Finish, PowerCycle, End}
 use Rattle.rules.specs.Tape.{kindAt, sentAt, recAt, records, whole, goodRecord, readAt, nextPlace}
 use Rattle.tape.specs.declared.Reader.{Reader}

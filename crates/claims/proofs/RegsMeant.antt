@@ -3,7 +3,7 @@
 use mathlib.Core.Path.{_≡_, refl, sym, ap, _∙_, subst}
 use mathlib.Core.Bool.{Bool, true, false, _||_}
 use mathlib.Core.List.{List, [], _∷_}
-use Prim.Native.Nat.{ℕ, zero, suc, _%_, _≤_, _<_}
+use Prim.Native.Nat.{ℕ, zero, suc, _≤_, _<_}
 use native.Mathlib.Omega.{arith}
 use lib.ListN.{length}
 use Rattle.lists.specs.Choice.{if_then_else_}
@@ -15,7 +15,7 @@ use Rattle.rules.specs.declared.Step.the-variants.{Erase, Lay, Guard}
 use Rattle.rules.specs.declared.Decoded.{Decoded}
 use Rattle.rules.specs.declared.Decoded.the-variants.{Good, Bad}
 use Rattle.rules.specs.Parts.{partOf}
-use Rattle.rules.specs.Status.{regsOf, statusOf, keptOf, withWel}
+use Rattle.rules.specs.Status.{regsOf, keptOf, withWel}
 use Rattle.rules.specs.Replay.{ReplaySeen, replayOf}
 use Rattle.rules.specs.Job.{settingLimit, stepAt, stepCount, withStep, stepsFrom, stepsOf, settingMeant, regsMeant, allRegsMeant}
 use Rattle.rules.specs.JobRefusals.{settingAfter}
@@ -109,10 +109,6 @@ start-small : (kept : Kept) → regsOf kept .setting ≤ settingLimit
 unfolding regsOf
 start-small kept = omega arith
 
-status-idle : (r : Regs) → r .busy ≡ false → keptOf r .status % 2 ≡ 0
-unfolding keptOf statusOf
-status-idle r e = rw e (omega arith)
-
 module _ (part s : ℕ) (job payload buffer : List ℕ) (served : translateOf part s job payload buffer .answer .served ≡ true) (kept : Kept) (m : Meter) (l : List ℕ) (long : length l ≡ partOf part .size) (ready : Ready (partOf part) s kept) (roomy : Roomy m (tapeWritten part s job payload buffer)) where
   -- the registers that the job means
   abbrev t : Regs
@@ -131,7 +127,3 @@ module _ (part s : ℕ) (job payload buffer : List ℕ) (served : translateOf pa
       let small = last-small job (regsOf kept .setting) 0 (stepCount job) (start-small kept) in
       let e : t .setting < 32 = omega (arith, said .setting) in
       subst (RegsSaid (regsOf kept) (stepsOf job)) (sym (ap regsOf back ∙ regs-back t e)) said
-
-  -- .. and BUSY of the word is 0
-  pub job-leaves-idle : replayOf part kept m l (tapeWritten part s job payload buffer) .answer .regs .status % 2 ≡ 0
-  job-leaves-idle = ap (λ (k : Kept). k .status % 2) back ∙ status-idle t (said .busy ∙ ready .idle)

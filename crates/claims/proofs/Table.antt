@@ -1,16 +1,16 @@
 -- The table of commands decides: what a row says of its code is what the chip goes by, row by row for the FM25Q16.
 use mathlib.Core.Path.{_≡_, refl}
 use mathlib.Core.Bool.{true, _&&_}
-use mathlib.Core.List.{List, [], _∷_}
 use mathlib.Core.Logic.{_⊎_, ⊎-map, _↔_}
 use Prim.Native.Nat.{ℕ, _≤_}
-use borrow.Author.Tests.{eqb-true, eq-eqb, ne-eqb, leb-true, le-leb}
+use borrow.Author.Tests.{eqb-true, eq-eqb, leb-true, le-leb}
 use Rattle.lists.specs.Choice.{if_then_else_, _=?_}
 use Rattle.lists.proofs.Choice.{both-true}
 use Rattle.rules.specs.declared.Command.the-variants.{Known, Unknown}
 use Rattle.rules.specs.Part.{Part, Bytes, exactly, either, orMore, Leftover, none, any, Row, takes, leaves, commandIn, shapedIn, commandOf, shaped}
 use Rattle.rules.specs.Fm25q16.{fmCommands, fmHeardAsleep, fmHeardBusy, fm25q16}
 use Rattle.rules.specs.Parts.{partOf}
+use Rattle.laws.proofs.Rows.{Each, Unlisted, end, _⊳_, no-command}
 use Rattle.claims.proofs.Choices.{either-true}
 
 -- n bytes are right for a row, x leftover bits are
@@ -22,12 +22,6 @@ Takes (orMore k) n = k ≤ n
 abbrev pub Leaves : Leftover → ℕ → Type 0
 Leaves none x = x ≡ 0
 Leaves any x = Unit {0}
-
-infixr 5 _⊳_
--- P holds of each row
-pub data Each (P : Row → Type 0) : List Row → Type 0 where
-  end : Each P []
-  _⊳_ : {w : Row} {ws : List Row} → P w → Each P ws → Each P (w ∷ ws)
 
 takes-is : (b : Bytes) (n : ℕ) → takes b n ≡ true ↔ Takes b n
 unfolding takes ⊎-map
@@ -78,14 +72,9 @@ rows-decide =
     ⊳ end
 
 -- a code that no row has is unknown: 12
-in-no-row : (op : ℕ) (ws : List Row) → Each (λ w. op ≡ w .code → ⊥) ws → commandIn ws op ≡ Unknown
-unfolding commandIn if_then_else_
-in-no-row op [] end = refl
-in-no-row op (w ∷ ws) (h ⊳ hs) = rw (ne-eqb op (w .code) h) (in-no-row op ws hs)
-
-pub unlisted-is-unknown : (p : Part) (op : ℕ) → Each (λ w. op ≡ w .code → ⊥) (p .commands) → commandOf p op ≡ Unknown
+pub unlisted-is-unknown : (p : Part) (op : ℕ) → Unlisted op (p .commands) → commandOf p op ≡ Unknown
 unfolding commandOf
-unlisted-is-unknown p op h = in-no-row op (p .commands) h
+unlisted-is-unknown p op h = no-command op (p .commands) h
 
 -- "asleep and not AB", "busy and neither 05 nor 35"
 pub heard-asleep : (op : ℕ) → partOf 1 .heardAsleep op ≡ true ↔ op ≡ 0xAB

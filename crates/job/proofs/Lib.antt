@@ -2,4 +2,3 @@ pub mod Bills
 pub mod Every
 pub mod Passed
 pub mod Steps
-pub mod Sums

@@ -1,17 +1,15 @@
 -- What an entry answers: by its refusal where there is one, and else by the verdict, the event or the records.
 use mathlib.Core.Path.{_≡_, refl, sym, ap, _∙_}
-use mathlib.Core.Bool.{Bool, true, false}
 use mathlib.Core.List.{List, _++_}
 use Prim.Native.Nat.{ℕ}
 use lib.ListN.{length, drop}
-use borrow.Author.Tests.{ne-eqb, eq-eqb}
+use borrow.Author.Tests.{ne-eqb}
 use Rattle.lists.specs.Choice.{if_then_else_}
 use Rattle.lists.specs.Places.{tabulate}
 use Rattle.rules.specs.declared.Kept.{Kept}
 use Rattle.rules.specs.declared.Meter.{Meter}
 use Rattle.rules.specs.declared.Regs.{Regs}
 use Rattle.rules.specs.declared.Refusal.{Refusal}
-use Rattle.rules.specs.declared.Kind.{Kind}
 use Rattle.rules.specs.declared.Kind.the-variants.{WriteEnable, WriteDisable, ReadStatusLow, ReadStatusHigh, Read, FastRead, Sleep, Wake, ReadMakerDevice, ReadJedec, Writes}
 use Rattle.rules.specs.declared.Verdict.{Verdict}
 use Rattle.rules.specs.declared.Verdict.the-variants.{CarriedOut, Ignored}
@@ -22,11 +20,11 @@ use Rattle.rules.specs.Part.{Part}
 use Rattle.rules.specs.Parts.{partOf}
 use Rattle.rules.specs.Status.{regsOf, keptOf}
 use Rattle.rules.specs.Verdict.{verdictOf}
-use Rattle.rules.specs.Transaction.{outAt, regsAfter, arrayAfter, turnBy, turnOf}
+use Rattle.rules.specs.Transaction.{outAt, regsAfter, arrayAfter, turnOf}
 use Rattle.rules.specs.Counts.{meterAfter}
 use Rattle.rules.specs.Refusals.{transactRefusal}
-use Rattle.rules.specs.Transact.{AnswerTold, TransactSeen, transactTold, transactSeen, transactServed, transactRefused, transactBy, isHigh, transactOf}
-use Rattle.rules.specs.EventEntries.{EventTold, eventTold, eventBy}
+use Rattle.rules.specs.Transact.{TransactSeen, transactTold, transactSeen, transactServed, transactRefused, transactBy, isHigh, transactOf}
+use Rattle.rules.specs.EventEntries.{eventTold, eventBy}
 
 -- ---- transact
 

@@ -7,4 +7,5 @@ pub mod JobPassed
 pub mod NoWrite
 pub mod Protection
 pub mod RecordOk
+pub mod Rows
 pub mod Sound

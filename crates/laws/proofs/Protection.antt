@@ -1,10 +1,8 @@
 -- The first protected byte, worked out from the ends of the area; and what it says byte by byte.
 use mathlib.Core.Path.{_≡_}
-use mathlib.Core.Bool.{Bool, true, false}
+use mathlib.Core.Bool.{false}
 use Prim.Native.Nat.{ℕ, _+_, _≤_, _<_}
-use Rattle.lists.specs.Places.{firstIn}
-use Rattle.lists.specs.declared.Found.{Found}
-use Rattle.lists.specs.declared.Found.the-variants.{At, Nothing}
+use Rattle.lists.specs.declared.Found.the-variants.{Nothing}
 use Rattle.lists.proofs.Search.{overlap, first-overlap, first-none, none-first}
 use Rattle.rules.specs.Part.{Part}
 use Rattle.rules.specs.Protection.{isProtected, firstProtected}

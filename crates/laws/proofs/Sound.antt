@@ -1,13 +1,13 @@
 -- What the rules need of any chip, as one record of laws; each chip keeps them.
 use mathlib.Core.Path.{_≡_, refl}
-use mathlib.Core.Bool.{Bool, true, false, _&&_}
+use mathlib.Core.Bool.{Bool, true, _&&_}
 use mathlib.Core.List.{List, [], _∷_}
-use Prim.Native.Nat.{ℕ, zero, suc, _+_, _-_, _*_, _/_, _%_, _≤_, _<_}
+use Prim.Native.Nat.{ℕ, zero, suc, _+_, _-_, _*_, _%_, _≤_, _<_}
 use native.Mathlib.Omega.{arith}
 use lib.Dec.{lit≤}
 use lib.ListN.{getD}
-use borrow.Author.Tests.{eqb-true, leb-true, ne-eqb}
-use Rattle.lists.specs.Choice.{if_then_else_, _=?_, _≤?_}
+use borrow.Author.Tests.{eqb-true, leb-true}
+use Rattle.lists.specs.Choice.{_=?_, _≤?_}
 use Rattle.lists.proofs.Choice.{both-true, by-choice}
 use Rattle.rules.specs.declared.EraseUnit.{EraseUnit}
 use Rattle.rules.specs.declared.EraseUnit.the-variants.{Sector, Block32, Block64, Chip}
@@ -17,11 +17,12 @@ use Rattle.rules.specs.declared.Kind.{Kind}
 use Rattle.rules.specs.declared.Command.the-variants.{Known, Unknown}
 use Rattle.rules.specs.Kinds.{codeOf}
 use Rattle.rules.specs.Units.{page, unitStart, unitLength}
-use Rattle.rules.specs.Part.{Part, Row, commandIn, commandOf}
+use Rattle.rules.specs.Part.{Part, Row, commandOf}
 use Rattle.rules.specs.Fm25q16.{fmSize, fmCommands, fmSec0, fmSec1, fmArea, fmLo, fmHi, fm25q16}
 use Rattle.rules.specs.Parts.{partOf}
 use Rattle.rules.specs.Writes.{reachStart, reachLength}
 use Rattle.rules.proofs.Apart.{code-back}
+use Rattle.laws.proofs.Rows.{Unlisted, end, _⊳_, no-command}
 
 pub record Sound (p : Part) : Type 0 where
   -- the size is a whole number of the largest unit, so every page and every unit ends inside the chip
@@ -107,13 +108,13 @@ bytes-only : List Row → Bool
 bytes-only [] = true
 bytes-only (w ∷ ws) = (w .code ≤? 255) && bytes-only ws
 
-no-command : (ws : List Row) → bytes-only ws ≡ true → (op : ℕ) → 255 < op → commandIn ws op ≡ Unknown
-unfolding bytes-only commandIn if_then_else_
-no-command [] e op h = refl
-no-command (w ∷ ws) e op h =
+far : (ws : List Row) → bytes-only ws ≡ true → (op : ℕ) → 255 < op → Unlisted op ws
+unfolding bytes-only
+far [] e op h = end
+far (w ∷ ws) e op h =
     let b = both-true (w .code ≤? 255) (bytes-only ws) e in
     let k = leb-true (w .code) 255 (b .0) in
-    rw (ne-eqb op (w .code) (λ q. omega arith)) (no-command ws (b .1) op h)
+    (λ (q : op ≡ w .code). omega arith) ⊳ far ws (b .1) op h
 
 pub part-sound : (part : ℕ) → Sound (partOf part)
 unfolding partOf fm25q16 fmCommands commandOf bytes-only
@@ -127,5 +128,5 @@ part-sound part =
       hi-page = λ s. fm-hi s .whole;
       hi-end = λ s. fm-hi s .small;
       codes = code-back;
-      byte-codes = no-command fmCommands refl;
+      byte-codes = λ op h. no-command op fmCommands (far fmCommands refl op h);
     }

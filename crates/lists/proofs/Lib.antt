@@ -4,3 +4,4 @@ pub mod Patched
 pub mod Search
 pub mod Front
 pub mod Lent
+pub mod Sums

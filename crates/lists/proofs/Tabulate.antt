@@ -2,11 +2,11 @@
 use mathlib.Core.Path.{_≡_, refl, sym, ap, _∙_}
 use mathlib.Core.Bool.{Bool, true, false}
 use mathlib.Core.List.{List, [], _∷_, _++_, append-nil}
-use Prim.Native.Nat.{ℕ, zero, suc, _+_, _≤_, _<_}
+use Prim.Native.Nat.{ℕ, zero, suc, _+_, _<_}
 use native.Mathlib.Omega.{arith}
 use native.Mathlib.Nat.{add-zero, add-suc, suc-add, zero-add, le-of-suc-le-suc, not-suc-le-zero}
 use native.Mathlib.Numerals.{add-one}
-use lib.ListN.{length, getD, drop, set, length-append, length-drop}
+use lib.ListN.{length, getD, drop, set}
 use lib.Seq.{getD-append-add, drop-cons, drop-length, ext-getD, getD-set-same, getD-set-other}
 use lib.Dec.{eqb}
 use borrow.Author.Tests.{eqb-true, eqb-false}
@@ -74,9 +74,6 @@ tab-old i f d h =
     let e : i ≡ length (tabulate i f) + 0 = omega (arith, tab-length i f) in
     ap (λ (v : ℕ). getD (tabulate i f ++ drop i d) v 0) e
     ∙ getD-append-add (tabulate i f) (drop i d) 0 0 ∙ ap (λ (l : List ℕ). getD l 0 0) (drop-cons d i 0 h)
-
-pub tab-front-length : (i : ℕ) (f : ℕ → ℕ) (d : List ℕ) → i ≤ length d → length (tabulate i f ++ drop i d) ≡ length d
-tab-front-length i f d h = simp (length-append, tab-length, length-drop) (omega arith)
 
 -- at the end nothing of the old is left
 pub tab-all : (f : ℕ → ℕ) (d : List ℕ) (i : ℕ) → i ≡ length d → tabulate i f ++ drop i d ≡ tabulate (length d) f

@@ -3,7 +3,6 @@ use rules::Kind;
 use rules::Meter;
 use rules::Write;
 ghost use mathlib.Core.Path.{_≡_};
-ghost use mathlib.Core.Bool.{Bool};
 ghost use Prim.Native.Nat.{_+_};
 ghost use Rattle.rules.specs.Kinds.{ofWrite};
 ghost use Rattle.lists.specs.Choice.{_≤?_};

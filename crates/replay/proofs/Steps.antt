@@ -1,7 +1,7 @@
 -- One record more: what is played, and what room is left.
-use mathlib.Core.Path.{_≡_, refl, sym, ap, _∙_, subst}
+use mathlib.Core.Path.{_≡_, sym, ap, _∙_, subst}
 use mathlib.Core.Bool.{Bool, true, false}
-use mathlib.Core.List.{List, [], _∷_}
+use mathlib.Core.List.{List, _∷_}
 use Prim.Native.Nat.{ℕ, zero, suc, _+_, _-_, _≤_, _<_, min}
 use native.Mathlib.Omega.{arith}
 use native.Mathlib.Numerals.{add-one}
@@ -28,7 +28,7 @@ use Rattle.rules.specs.Play.{State, state, playRec, play}
 use Rattle.laws.specs.Room.{Room}
 use Rattle.tape.specs.Record.{recOf, saidAt}
 use Rattle.tape.proofs.Said.{said-rec}
-use Rattle.laws.proofs.CarriedOut.{Plain, by-write}
+use Rattle.laws.proofs.CarriedOut.{by-write}
 
 -- a turn without its output is a transaction's record played
 pub turned : (p : Part) (r : Regs) (l : List ℕ) (m : Meter) (b : List ℕ) (x : ℕ) (high : Bool) (v : Verdict) (regs : Regs) (array : List ℕ) (meter : Meter)

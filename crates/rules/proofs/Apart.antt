@@ -9,7 +9,6 @@ use Rattle.rules.specs.declared.EraseUnit.the-variants.{Sector, Block32,
 use Rattle.rules.specs.declared.Write.the-variants.{Program, Erase, WriteStatus}
 use Rattle.rules.specs.declared.Kind.{Kind}
 use Rattle.rules.specs.declared.Kind.the-variants.{WriteEnable, WriteDisable, ReadStatusLow, ReadStatusHigh, Read, FastRead, Sleep, Wake, ReadMakerDevice, ReadJedec, Writes}
-use Rattle.rules.specs.declared.Command.{Command}
 use Rattle.rules.specs.declared.Command.the-variants.{Known, Unknown}
 use Rattle.rules.specs.declared.Verdict.{Verdict}
 use Rattle.rules.specs.declared.Verdict.the-variants.{CarriedOut, Ignored}

@@ -2,11 +2,11 @@
 -- Unless said: awake, status 0000 hex, /WP high, no leftover bits; the array is FF but for the facts of a row.
 use Prim.Native.Nat.{ℕ}
 use mathlib.Core.Bool.{Bool, true}
-use mathlib.Core.List.{List, [], _∷_, map}
+use mathlib.Core.List.{List, [], _∷_}
 use lib.ListN.{length, getD, set, replicate}
 use Rattle.rules.specs.declared.Kept.{Kept}
 use Rattle.rules.specs.declared.Meter.{Meter}
-use Rattle.rules.specs.Transact.{AnswerTold, TransactSeen, transactOf}
+use Rattle.rules.specs.Transact.{TransactSeen, transactOf}
 use Rattle.rules.specs.EventEntries.{finishOf}
 
 -- a byte of the array

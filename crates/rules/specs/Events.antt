@@ -1,5 +1,5 @@
 -- Finish and power cycle, on the registers. Document 01, "Busy".
-use mathlib.Core.Bool.{Bool, true, false, not, _&&_}
+use mathlib.Core.Bool.{true, false, not, _&&_}
 use Rattle.lists.specs.Choice.{if_then_else_}
 use Rattle.rules.specs.declared.Regs.{Regs}
 use Rattle.rules.specs.Status.{withBusy, withWel, withSrp1, withAwake}

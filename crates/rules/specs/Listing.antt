@@ -1,6 +1,6 @@
 -- The lines of the listing program. Document 01, "The listing program".
 use Prim.Native.Nat.{ℕ, zero, suc, _+_, _/_, _%_}
-use mathlib.Core.Bool.{Bool, not, _||_}
+use mathlib.Core.Bool.{not, _||_}
 use mathlib.Core.List.{List, [], _∷_, _++_}
 use lib.ListN.{length, getD}
 use Rattle.lists.specs.Choice.{if_then_else_, _=?_, _<?_}

@@ -3,12 +3,9 @@
 use Prim.Native.Nat.{ℕ}
 use mathlib.Core.Bool.{Bool, not}
 use Rattle.lists.specs.Choice.{if_then_else_, _=?_, _<?_}
-use Rattle.lists.specs.declared.Found.{Found}
-use Rattle.lists.specs.declared.Found.the-variants.{At, Nothing}
 use Rattle.rules.specs.declared.Kept.{Kept}
 use Rattle.rules.specs.declared.Meter.{Meter}
 use Rattle.rules.specs.declared.Refusal.{Refusal}
-use Rattle.rules.specs.Part.{Part}
 use Rattle.rules.specs.Parts.{isPart, partOf}
 use Rattle.rules.specs.Status.{wellFormed}
 use Rattle.rules.specs.Counts.{room}

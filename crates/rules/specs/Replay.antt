@@ -1,6 +1,6 @@
 -- The entries `replay` and `replay_first`: their one answer, and the array at exit.
 use Prim.Native.Nat.{ℕ}
-use mathlib.Core.Bool.{Bool, true, false, not}
+use mathlib.Core.Bool.{true, false, not}
 use mathlib.Core.List.{List}
 use lib.ListN.{length, take}
 use Rattle.lists.specs.Choice.{if_then_else_, _=?_}

@@ -1,6 +1,6 @@
 -- A tape's bytes, record by record. Document 01, "Jobs and tapes" and refusals 30 and 31.
 use Prim.Native.Nat.{ℕ, zero, suc, _+_, _-_, _*_, _/_, _%_}
-use mathlib.Core.Bool.{Bool, true, false, not, _&&_, _||_}
+use mathlib.Core.Bool.{Bool, not, _&&_, _||_}
 use mathlib.Core.List.{List, [], _∷_, _++_}
 use lib.ListN.{length, getD, take, drop, replicate}
 use Rattle.lists.specs.Choice.{if_then_else_, _=?_, _≤?_}

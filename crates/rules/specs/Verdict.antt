@@ -1,6 +1,6 @@
 -- The verdict on a transaction. Document 01, "Verdicts, first that applies".
 use Prim.Native.Nat.{ℕ, _+_, _*_, _%_}
-use mathlib.Core.Bool.{Bool, true, false, not, _&&_}
+use mathlib.Core.Bool.{Bool, not, _&&_}
 use mathlib.Core.List.{List}
 use lib.ListN.{length, getD}
 use Rattle.lists.specs.Choice.{if_then_else_, _=?_}

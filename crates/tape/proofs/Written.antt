@@ -1,15 +1,11 @@
--- A record's bytes put into a tape are the encoded record; after k others they make one record more.
+-- A record's bytes put into its 264 bytes are the encoded record.
 use mathlib.Core.Path.{_≡_, sym, ap, _∙_}
-use mathlib.Core.List.{List, [], _∷_, _++_, append-nil, append-assoc}
-use Prim.Native.Nat.{ℕ, _+_, _-_, _*_, _≤_}
+use mathlib.Core.List.{List, [], _∷_, _++_}
+use Prim.Native.Nat.{ℕ, _+_, _-_, _≤_}
 use native.Mathlib.Omega.{arith}
 use lib.ListN.{length, take, drop, set, replicate, length-replicate, replicate-append-replicate}
-use lib.Seq.{take-at, drop-at, drop-append-add, drop-drop}
-use borrow.Rule.Slice.PartMut.{putMid, post-is}
-use Rattle.rules.specs.Tape.{Rec, finish, encodeRec, encode}
-use Rattle.tape.proofs.Encoded.{encode-append}
-
--- ---- a record into its 264 bytes
+use lib.Seq.{drop-at, drop-drop}
+use Rattle.rules.specs.Tape.{finish, encodeRec}
 
 zeros-left : (n m : ℕ) → drop n (replicate (n + m) 0) ≡ replicate {A = ℕ} m 0
 zeros-left n m = ap (drop n) (sym (replicate-append-replicate n m 0)) ∙ drop-at (replicate n 0) (replicate m 0) n (length-replicate n 0)
@@ -34,28 +30,3 @@ transaction-written z y w b n h₀ h₁ h₂ h₃ l h p q s =
 pub finish-written : (l : List ℕ) (n : ℕ) → n ≡ 264 → l ≡ replicate n 0 → set l 2 1 ≡ encodeRec finish
 unfolding encodeRec
 finish-written l n e q = rw (q, e)
-
--- ---- a record into a tape: rs are written, t is the tape as it came
-
-encode-one : (rs : List Rec) (r : Rec) → encode (rs ++ (r ∷ [])) ≡ encode rs ++ encodeRec r
-unfolding encode
-encode-one rs r = encode-append rs (r ∷ []) ∙ ap (λ (l : List ℕ). encode rs ++ l) (append-nil (encodeRec r))
-
-pub put-one : (rs : List Rec) (r : Rec) (t : List ℕ) (k : ℕ) → length (encode rs) ≡ 264 * k
-    → take (264 * k) (encode rs ++ drop (264 * k) t) ++ (encodeRec r ++ drop (264 * k + 264) (encode rs ++ drop (264 * k) t))
-    ≡ encode (rs ++ (r ∷ [])) ++ drop (264 * k + 264) t
-put-one rs r t k e =
-    let a : take (264 * k) (encode rs ++ drop (264 * k) t) ≡ encode rs = take-at (encode rs) (drop (264 * k) t) (264 * k) e in
-    let b : drop (264 * k + 264) (encode rs ++ drop (264 * k) t) ≡ drop (264 * k + 264) t =
-    ap (λ (n : ℕ). drop (n + 264) (encode rs ++ drop (264 * k) t)) (sym e) ∙ drop-append-add (encode rs) (drop (264 * k) t) 264 ∙ drop-drop 264 (264 * k) t in
-    (λ i. a i ++ (encodeRec r ++ b i))
-    ∙ sym (append-assoc (encode rs) (encodeRec r) (drop (264 * k + 264) t))
-    ∙ ap (λ (l : List ℕ). l ++ drop (264 * k + 264) t) (sym (encode-one rs r))
-
--- the same where the record's part of the tape was lent, and came back as ys
-pub put-lent : (rs : List Rec) (r : Rec) (t ys : List ℕ) (k : ℕ) → length (encode rs) ≡ 264 * k → ys ≡ encodeRec r
-    → putMid (264 * k) (264 * k + 264 - 264 * k) (encode rs ++ drop (264 * k) t) ys ≡ encode (rs ++ (r ∷ [])) ++ drop (264 * k + 264) t
-put-lent rs r t ys k e q =
-    let l : List ℕ = encode rs ++ drop (264 * k) t in
-    ap (λ (z : List ℕ). take (264 * k) l ++ (ys ++ z)) (post-is (264 * k) (264 * k + 264) l (omega arith))
-    ∙ ap (λ (z : List ℕ). take (264 * k) l ++ (z ++ drop (264 * k + 264) l)) q ∙ put-one rs r t k e

@@ -1,10 +1,10 @@
 -- Splices: a lent part put back, one splice after another, and none.
-use mathlib.Core.Path.{_≡_, refl, sym, ap, _∙_}
-use mathlib.Core.List.{List, [], _∷_, _++_, append-assoc, append-nil}
-use Prim.Native.Nat.{ℕ, _+_, _-_, _*_, _≤_, _<_}
+use mathlib.Core.Path.{_≡_, sym, ap, _∙_}
+use mathlib.Core.List.{List, [], _++_, append-assoc}
+use Prim.Native.Nat.{ℕ, _+_, _-_, _*_, _≤_}
 use native.Mathlib.Omega.{arith}
-use lib.ListN.{length, take, drop, length-append, length-take, length-drop, take-append-drop}
-use lib.Seq.{take-at, drop-at, length-take-le, take-append-add, drop-append-add, drop-drop, take-take}
+use lib.ListN.{length, take, drop, length-append, take-append-drop}
+use lib.Seq.{take-at, length-take-le, drop-append-add, drop-drop}
 use borrow.Rule.Slice.PartMut.{putMid, post-is}
 use Rattle.rules.specs.Tape.{Rec, encodeRec}
 use Rattle.laws.proofs.RecordOk.{RecOk}
@@ -20,10 +20,6 @@ put-record l ys k ok f e =
     let long = ap length e ∙ rec-length ok in
     ap (λ (w : List ℕ). take (264 * k) l ++ (ys ++ w)) (post-is (264 * k) (264 * k + 264) l (omega arith) ∙ ap (λ (n : ℕ). drop (264 * k + n) l) (sym long))
     ∙ ap (spliced l (264 * k)) e
-
-pub spliced-length : (l : List ℕ) (a : ℕ) (ys : List ℕ) → a + length ys ≤ length l → length (spliced l a ys) ≡ length l
-unfolding spliced
-spliced-length l a ys h = simp (length-append, length-take, length-drop) (omega arith)
 
 pub splice-none : (l : List ℕ) (a : ℕ) → spliced l a [] ≡ l
 unfolding spliced

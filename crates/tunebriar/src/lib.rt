@@ -20,7 +20,7 @@ ghost use Rattle.rules.specs.Transact.{transactTold, transactOf};
 ghost use Rattle.rules.specs.EventEntries.{eventTold, finishOf, powerCycleOf};
 ghost use Rattle.rules.specs.CountEntry.{metered, countOf};
 ghost use Rattle.rules.specs.Replay.{replayTold, replayOf, replayFirstOf};
-ghost use Rattle.rules.specs.Tape.{readTold, readOf};
+ghost use Rattle.rules.specs.Tape.{readOf};
 ghost use Rattle.tunebriar.specs.Found.{tbPlain, tbFound};
 ghost use lib.ListN.{length};
 ghost use Rattle.rules.specs.Translate.{translateTold, translateOf, quoteTold, quoteOf};

@@ -3,19 +3,17 @@ use Rattle.rules.specs.Transact.{isHigh}
 use Rattle.laws.proofs.Sound.{part-sound, size-some}
 use Rattle.lists.proofs.Lent.{put-front, front-long}
 use Rattle.rules.specs.declared.Regs.{Regs}
-use Rattle.laws.proofs.Answered.{seenBy, transact-served, transact-refused, out-after}
+use Rattle.laws.proofs.Answered.{transact-served, transact-refused, out-after}
 use Rattle.laws.proofs.Accepted.{Taken, taken}
 use Rattle.rules.specs.Transact.{transactTold, transactSeen}
-use Rattle.rules.specs.Counts.{meterAfter}
-use Rattle.rules.specs.Transaction.{outAt, arrayAfter, regsAfter}
-use Rattle.rules.specs.Status.{regsOf, keptOf}
+use Rattle.rules.specs.Transaction.{outAt, regsAfter}
+use Rattle.rules.specs.Status.{keptOf}
 use Rattle.rules.specs.Parts.{partOf}
 use Rattle.rules.specs.declared.Transacted.the-variants.{Stepped}
-use Rattle.rules.specs.declared.Verdict.{Verdict}
-use Rattle.lists.specs.Places.{tabulate, patched}
+use Rattle.lists.specs.Places.{tabulate}
 use lib.ListN.{length, drop}
 use native.Mathlib.Omega.{arith}
-use Prim.Native.Nat.{ℕ, _≤_}
+use Prim.Native.Nat.{ℕ}
 use mathlib.Core.List.{List, _++_}
 use mathlib.Core.Path.{_≡_, sym, ap, _∙_}
 use borrow.Author.Needs.{needs}

@@ -1,5 +1,4 @@
 use mathlib.Core.Path.{sym, _∙_}
-use mathlib.Core.Path.{_≡_, refl}
 use borrow.Author.Needs.{needs}
 use Rattle.chip.proofs.turn.Statement.{statement}
 use Rattle.chip.proofs.turn.Tie as tie

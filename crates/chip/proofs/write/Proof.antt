@@ -1,12 +1,10 @@
 use Rattle.laws.proofs.Sound.{part-sound, reach-end, unit-end}
 use Rattle.rules.specs.declared.Write.the-variants.{Program}
 use Rattle.rules.specs.Parts.{partOf}
-use Rattle.rules.specs.Cells.{programmed, erased}
+use Rattle.rules.specs.Cells.{erased}
 use lib.ListN.{length, length-drop}
 use native.Mathlib.Omega.{arith}
-use Prim.Native.Nat.{ℕ, _≤_}
-use mathlib.Core.List.{List}
-use mathlib.Core.Path.{_≡_, ap, _∙_}
+use mathlib.Core.Path.{ap, _∙_}
 use borrow.Author.Needs.{needs}
 use Rattle.chip.proofs.write.Statement.{statement}
 use Rattle.chip.proofs.write.Tie as tie

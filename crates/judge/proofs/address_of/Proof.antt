@@ -2,7 +2,6 @@ use Rattle.laws.proofs.Sound.{part-sound}
 use native.Mathlib.Nat.{mod-lt}
 use native.Mathlib.Omega.{arith}
 use Rattle.rules.specs.Verdict.{addressOf}
-use mathlib.Core.Path.{_≡_}
 use borrow.Author.Needs.{needs}
 use Rattle.judge.proofs.address_of.Statement.{statement}
 use Rattle.judge.proofs.address_of.Tie as tie

@@ -4,7 +4,7 @@ use Rattle.rules.specs.Parts.{partOf}
 use native.Mathlib.Omega.{arith}
 use mathlib.Core.Logic.{⊎-elim}
 use mathlib.Core.Path.{_≡_, sym, _∙_}
-use Prim.Native.Nat.{ℕ, _+_, min, max}
+use Prim.Native.Nat.{_+_, min, max}
 use borrow.Author.Needs.{needs}
 use Rattle.judge.proofs.first_protected.Statement.{statement}
 use Rattle.judge.proofs.first_protected.Tie as tie

@@ -3,7 +3,6 @@ use Rattle.rules.specs.Verdict.{writeVerdict}
 use Rattle.rules.specs.Parts.{partOf}
 use Rattle.lists.specs.Choice.{if_then_else_}
 use native.Mathlib.Omega.{arith}
-use mathlib.Core.Path.{_∙_}
 use borrow.Author.Needs.{needs}
 use Rattle.judge.proofs.judge_write.Statement.{statement}
 use Rattle.judge.proofs.judge_write.Tie as tie

@@ -1,4 +1,3 @@
-use mathlib.Core.Path.{refl}
 use borrow.Author.Needs.{needs}
 use Rattle.judge.proofs.unit_start.Statement.{statement}
 use Rattle.judge.proofs.unit_start.Tie as tie

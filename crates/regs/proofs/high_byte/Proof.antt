@@ -1,4 +1,3 @@
-use native.Mathlib.Omega.{arith}
 use Rattle.rules.specs.Status.{highByte}
 use borrow.Author.Needs.{needs}
 use Rattle.regs.proofs.high_byte.Statement.{statement}

@@ -1,5 +1,5 @@
 use Rattle.rules.specs.Status.{wellFormed}
-use borrow.Author.Tests.{le-ltb, lt-ltb, lt-leb, le-leb, eq-eqb, ne-eqb}
+use borrow.Author.Tests.{le-ltb, lt-ltb, lt-leb, le-leb, ne-eqb}
 use Rattle.regs.proofs.well_formed.Statement.{statement}
 use Rattle.regs.proofs.well_formed.Tie as tie
 

@@ -1,6 +1,6 @@
 use Rattle.replay.proofs.Steps.{record-room, play-more, play-over}
 use Rattle.laws.specs.Room.{Room}
-use Rattle.rules.specs.Play.{State, state, playRec, play}
+use Rattle.rules.specs.Play.{State, state, play}
 use Rattle.rules.specs.Tape.{recAt, recsFrom}
 use Rattle.rules.specs.Parts.{partOf}
 use Rattle.rules.specs.declared.Meter.{Meter}

@@ -5,7 +5,6 @@ use Rattle.rules.specs.Parts.{partOf}
 use lib.ListN.{take, drop}
 use native.Mathlib.Omega.{arith}
 use Prim.Native.Nat.{ℕ, _+_, _-_}
-use mathlib.Core.List.{List}
 use mathlib.Core.Path.{_≡_, ap, _∙_}
 use borrow.Author.Needs.{needs}
 use Rattle.replay.proofs.play_sent.Statement.{statement}

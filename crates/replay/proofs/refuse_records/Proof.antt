@@ -1,9 +1,7 @@
-use Rattle.rules.specs.Replay.{badRecord, recordsRefusal}
+use Rattle.rules.specs.Replay.{recordsRefusal}
 use Rattle.rules.specs.Refusals.{_orElse_}
 use Rattle.lists.specs.Choice.{if_then_else_}
-use Rattle.lists.specs.declared.Found.{Found}
 use borrow.Author.Tests.{ne-eqb}
-use mathlib.Core.Path.{_≡_, ap, sym, _∙_}
 use borrow.Author.Needs.{needs}
 use Rattle.replay.proofs.refuse_records.Statement.{statement}
 use Rattle.replay.proofs.refuse_records.Tie as tie

@@ -3,16 +3,15 @@ use Rattle.replay.proofs.Checked.{Checked, checked, fewer, replay-serve
 use Rattle.replay.specs.Playable.{Playable}
 use Rattle.laws.specs.Room.{Room}
 use Rattle.rules.specs.Replay.{replayTold, replaySeen}
-use Rattle.rules.specs.Play.{State, state, play}
+use Rattle.rules.specs.Play.{state, play}
 use Rattle.rules.specs.Tape.{Rec, records, recsFrom}
-use Rattle.rules.specs.Status.{regsOf, keptOf}
 use Rattle.rules.specs.Parts.{partOf}
 use Rattle.rules.specs.declared.Replayed.the-variants.{Ended}
 use Rattle.rules.specs.declared.Regs.{Regs}
 use lib.ListN.{length}
 use Prim.Native.Nat.{ℕ, min}
 use mathlib.Core.List.{List}
-use mathlib.Core.Path.{_≡_, sym, ap, _∙_}
+use mathlib.Core.Path.{sym, ap, _∙_}
 use borrow.Author.Needs.{needs}
 use Rattle.replay.proofs.replay_first.Statement.{statement}
 use Rattle.replay.proofs.replay_first.Tie as tie

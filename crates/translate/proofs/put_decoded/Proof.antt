@@ -4,8 +4,7 @@ use Rattle.translate.specs.Spliced.{Fits}
 use Rattle.rules.specs.Tape.{encode}
 use Rattle.rules.specs.declared.Decoded.{Decoded}
 use native.Mathlib.Omega.{arith}
-use Prim.Native.Nat.{ℕ, _*_}
-use mathlib.Core.Path.{_≡_, sym, ap, _∙_, subst}
+use mathlib.Core.Path.{sym, subst}
 use borrow.Author.Needs.{needs}
 use Rattle.translate.proofs.put_decoded.Statement.{statement}
 use Rattle.translate.proofs.put_decoded.Tie as tie

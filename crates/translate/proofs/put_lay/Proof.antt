@@ -2,13 +2,12 @@ use borrow.Author.Count.{falls}
 use Rattle.translate.proofs.Pages.{lay-over}
 use Rattle.translate.proofs.Pages.{lay-turn}
 use Rattle.translate.specs.Spliced.{spliced}
-use Rattle.rules.specs.Records.{pageRecs, pagesTouched}
+use Rattle.rules.specs.Records.{pageRecs}
 use Rattle.rules.specs.Tape.{encode}
 use lib.ListN.{length, take, drop}
 use native.Mathlib.Omega.{arith}
-use Prim.Native.Nat.{ℕ, _+_, _-_, _*_, _/_, _≤_, min}
-use mathlib.Core.List.{List, []}
-use mathlib.Core.Path.{_≡_, refl, sym, ap, _∙_}
+use Prim.Native.Nat.{ℕ, _+_, _-_, _*_, _/_, _≤_}
+use mathlib.Core.Path.{_≡_, refl, ap, _∙_}
 use borrow.Author.Needs.{needs}
 use Rattle.translate.proofs.put_lay.Statement.{statement}
 use Rattle.translate.proofs.put_lay.Tie as tie

@@ -1,4 +1,3 @@
-use native.Mathlib.Omega.{arith}
 use Prim.Native.Nat.{ℕ, _+_, _*_}
 use mathlib.Core.Path.{ap}
 use borrow.Author.Needs.{needs}

@@ -4,13 +4,11 @@ use Rattle.translate.specs.Spliced.{spliced}
 use Rattle.rules.specs.Job.{stepAt}
 use Rattle.rules.specs.Tape.{encode}
 use Rattle.rules.specs.Parts.{partOf}
-use Rattle.rules.specs.declared.Step.{Step}
 use Rattle.rules.specs.declared.Decoded.{Decoded}
 use borrow.Author.Count.{falls}
 use lib.ListN.{length}
 use native.Mathlib.Omega.{arith}
-use Prim.Native.Nat.{ℕ, _+_, _-_, _*_, _/_, _≤_, _<_}
-use mathlib.Core.List.{List}
+use Prim.Native.Nat.{ℕ, _+_, _-_, _*_, _/_, _≤_}
 use mathlib.Core.Path.{_≡_, refl, sym, ap, _∙_, subst}
 use borrow.Author.Needs.{needs}
 use Rattle.translate.proofs.put_steps.Statement.{statement}

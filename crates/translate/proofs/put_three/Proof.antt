@@ -8,7 +8,7 @@ use native.Mathlib.Omega.{arith}
 use Prim.Native.Nat.{ℕ, _+_, _*_}
 use mathlib.Core.List.{List, [], _∷_, _++_}
 use mathlib.Core.Bool.{true}
-use mathlib.Core.Path.{_≡_, refl, ap, _∙_, sym}
+use mathlib.Core.Path.{_≡_, ap, _∙_, sym}
 use borrow.Author.Needs.{needs}
 use Rattle.translate.proofs.put_three.Statement.{statement}
 use Rattle.translate.proofs.put_three.Tie as tie

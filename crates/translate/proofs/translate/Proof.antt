@@ -4,18 +4,14 @@ use Rattle.translate.proofs.Answer.{writable, translate-refused, transl
 use Rattle.job.proofs.Passed.{accepted-counted}
 use Rattle.demand.proofs.Holds.{recs-long}
 use Rattle.rules.specs.Translate.{tapeOf, translateTold, translateSeen}
-use Rattle.rules.specs.Records.{jobRecs, billOf}
 use Rattle.rules.specs.JobRefusals.{jobRefusal}
 use Rattle.rules.specs.Job.{stepsOf}
-use Rattle.rules.specs.Tape.{encode}
 use Rattle.rules.specs.Parts.{partOf}
 use Rattle.rules.specs.declared.Translated.the-variants.{Written}
 use Rattle.rules.specs.declared.Refusal.{Refusal}
 use Rattle.rules.specs.declared.Bill.{Bill}
-use lib.ListN.{length, drop}
+use lib.ListN.{length}
 use native.Mathlib.Omega.{arith}
-use Prim.Native.Nat.{ℕ}
-use mathlib.Core.List.{List, _++_}
 use mathlib.Core.Path.{_≡_, sym, ap, _∙_}
 use borrow.Author.Needs.{needs}
 use Rattle.translate.proofs.translate.Statement.{statement}

@@ -2,8 +2,7 @@ use Rattle.tunebriar.proofs.Told.{found-told}
 use Rattle.tunebriar.specs.Found.{tbFound}
 use Rattle.rules.specs.Tape.{readAt, readOf}
 use Rattle.tape.specs.declared.Reading.{Reading}
-use Rattle.tape.specs.Record.{readingAt}
-use mathlib.Core.Path.{_≡_, refl, ap, _∙_}
+use mathlib.Core.Path.{refl, ap, _∙_}
 use borrow.Author.Needs.{needs}
 use Rattle.tunebriar.proofs.tb_read.Statement.{statement}
 use Rattle.tunebriar.proofs.tb_read.Tie as tie

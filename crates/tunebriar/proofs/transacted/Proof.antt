@@ -1,4 +1,3 @@
-use Rattle.rules.specs.declared.TbAnswer.{TbAnswer}
 use borrow.Author.Needs.{needs}
 use Rattle.tunebriar.proofs.transacted.Statement.{statement}
 use Rattle.tunebriar.proofs.transacted.Tie as tie

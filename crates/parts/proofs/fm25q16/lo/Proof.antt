@@ -1,6 +1,6 @@
 use Rattle.rules.specs.Fm25q16.{fmLo}
 use Rattle.lists.specs.Choice.{if_then_else_}
-use borrow.Author.Tests.{eq-eqb, ne-eqb}
+use borrow.Author.Tests.{ne-eqb}
 use borrow.Author.Needs.{needs}
 use Rattle.parts.proofs.fm25q16.lo.Statement.{statement}
 use Rattle.parts.proofs.fm25q16.lo.Tie as tie

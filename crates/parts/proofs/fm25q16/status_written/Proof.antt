@@ -1,7 +1,6 @@
 use Rattle.rules.specs.Fm25q16.{fmStatusWritten}
 use Rattle.lists.specs.Choice.{if_then_else_}
 use borrow.Author.Tests.{ne-eqb}
-use mathlib.Core.Path.{ap, _∙_}
 use borrow.Author.Needs.{needs}
 use Rattle.parts.proofs.fm25q16.status_written.Statement.{statement}
 use Rattle.parts.proofs.fm25q16.status_written.Tie as tie
