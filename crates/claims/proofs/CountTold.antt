@@ -25,16 +25,12 @@ use Rattle.rules.specs.Transaction.{turnBy, turnOf}
 use Rattle.rules.specs.Refusals.{accepted, transactRefusal}
 use Rattle.rules.specs.Transact.{AnswerTold, isHigh, transactServed, transactRefused, transactBy, transactOf}
 use Rattle.laws.specs.Room.{Room}
-use Rattle.laws.proofs.Accepted.{taken}
+use Rattle.laws.proofs.Accepted.{room-had, taken}
 use Rattle.laws.proofs.CarriedOut.{carried-passed}
 use Rattle.claims.proofs.Ignored.{ignored-number}
 use Rattle.claims.proofs.NumbersTell.{holdsIn, none-holds, transact-row}
 
 -- ---- what `countOf` says of a number
-
-room-had : (m : Meter) (n : ℕ) → Room m n → room m n ≡ true
-unfolding room
-room-had m n r = rw (le-leb _ _ (r .programs-fit), le-leb _ _ (r .erases-fit), le-leb _ _ (r .writes-fit), le-leb _ _ (r .ignored-fit)) refl
 
 -- with a part and with room it is served
 served-at : (part : ℕ) (m : Meter) (n op : ℕ) → isPart part ≡ true → Room m 1 → countOf part m n op ≡ metered 0 (meterTold (partOf part) m n op)

@@ -12,6 +12,8 @@ use Rattle.rules.specs.declared.TbTape.{TbTape}
 use Rattle.rules.specs.declared.TbBill.{TbBill}
 use Rattle.rules.specs.declared.TbRecord.{TbRecord}
 use Rattle.rules.specs.Transact.{transactOf}
+use Rattle.rules.specs.declared.Metered.{Metered}
+use Rattle.rules.specs.CountEntry.{metered, countOf}
 use Rattle.rules.specs.EventEntries.{finishOf, powerCycleOf}
 use Rattle.rules.specs.Tape.{readOf}
 use Rattle.rules.specs.Replay.{replayFirstOf, replayOf}
@@ -50,6 +52,14 @@ pub tb-translate-unique : (part s : ℕ) (job payload tape : List ℕ) (t u : Tb
 tb-translate-unique part s job payload tape t u w₁ w₂ p q =
     let e = p ∙ sym q in
     (ap (λ (w : TbTranslated). w .answer) e, ap (λ (w : TbTranslated). w .tape) e)
+
+-- ---- the meter is lent: the number and the meter
+
+pub tb-count-unique : (part : ℕ) (m : Meter) (number op : ℕ) (n k : ℕ) (m₁ m₂ : Meter)
+    → metered n m₁ ≡ countOf part m number op → metered k m₂ ≡ countOf part m number op → (n ≡ k) × (m₁ ≡ m₂)
+tb-count-unique part m number op n k m₁ m₂ p q =
+    let e = p ∙ sym q in
+    (ap (λ (t : Metered). t .number) e, ap (λ (t : Metered). t .meter) e)
 
 -- ---- nothing that is lent changes: the answer is all
 

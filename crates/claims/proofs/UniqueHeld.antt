@@ -1,13 +1,13 @@
--- Document 01, "How tightly an answer is pinned", of what is brought up to date where it lies: the caller's meter, and the
--- reader of a tape. No second answer fits, and no other contents.
-use mathlib.Core.Path.{_≡_, sym, ap, _∙_}
+-- Document 01, "How tightly an answer is pinned", of the meter by itself, and of the reader of a tape, which is brought up
+-- to date where it lies. No second answer fits, and no other contents.
+use mathlib.Core.Path.{_≡_}
 use mathlib.Core.List.{List}
 use Prim.Native.Nat.{ℕ}
 use denote.Ref.{RefT}
 use Rattle.rules.specs.declared.Meter.{Meter}
 use Rattle.rules.specs.declared.Metered.{Metered}
 use Rattle.rules.specs.declared.AtPlace.{AtPlace}
-use Rattle.rules.specs.CountEntry.{metered, countOf}
+use Rattle.rules.specs.CountEntry.{countOf}
 use Rattle.rules.specs.Tape.{readAt}
 use Rattle.tape.specs.Record.{readingAt}
 use Rattle.tape.specs.declared.Reading.{Reading}
@@ -19,16 +19,10 @@ use Rattle.claims.proofs.UniqueC.{same}
 both-same : {A B : Type 0} (v : A) (w : B) (t u : A) (x y : B) → (t ≡ v) × (x ≡ w) → (u ≡ v) × (y ≡ w) → (t ≡ u) × (x ≡ y)
 both-same v w t u x y p q = (same v t u (p .0) (q .0), same w x y (p .1) (q .1))
 
--- ---- the meter, by value and where it lies
+-- ---- the meter by itself
 
 pub count-unique : (part : ℕ) (m : Meter) (number op : ℕ) (t u : Metered) → t ≡ countOf part m number op → u ≡ countOf part m number op → t ≡ u
 count-unique part m number op = same (countOf part m number op)
-
-pub tb-count-unique : (part : ℕ) (m : Meter) (number op : ℕ) (n k : ℕ) (m₁ m₂ : Meter)
-    → metered n m₁ ≡ countOf part m number op → metered k m₂ ≡ countOf part m number op → (n ≡ k) × (m₁ ≡ m₂)
-tb-count-unique part m number op n k m₁ m₂ p q =
-    let e = p ∙ sym q in
-    (ap (λ (t : Metered). t .number) e, ap (λ (t : Metered). t .meter) e)
 
 -- ---- the reader: the caller's bytes that it keeps hold of, and its place
 

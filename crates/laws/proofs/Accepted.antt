@@ -4,7 +4,7 @@ use mathlib.Core.Bool.{Bool, true, false, not, _&&_}
 use Prim.Native.Nat.{ℕ, _+_, _≤_, _<_}
 use native.Mathlib.Omega.{arith}
 use lib.Dec.{eqb}
-use borrow.Author.Tests.{ltb-false, eqb-true, eqb-false, leb-true, not-false, eq-eqb}
+use borrow.Author.Tests.{ltb-false, eqb-true, eqb-false, leb-true, le-leb, not-false, eq-eqb}
 use Rattle.lists.specs.Choice.{if_then_else_, _=?_, _<?_, _≤?_}
 use Rattle.lists.proofs.Choice.{took-other, both-true}
 use Rattle.rules.specs.declared.Kept.{Kept}
@@ -40,6 +40,10 @@ room-is m n e =
     let b = both-true (p && q) r (a .0) in
     let c = both-true p q (b .0) in
     record { programs-fit = leb-true _ _ (c .0); erases-fit = leb-true _ _ (c .1); writes-fit = leb-true _ _ (b .1); ignored-fit = leb-true _ _ (a .1) }
+
+pub room-had : (m : Meter) (n : ℕ) → Room m n → room m n ≡ true
+unfolding room
+room-had m n r = rw (le-leb _ _ (r .programs-fit), le-leb _ _ (r .erases-fit), le-leb _ _ (r .writes-fit), le-leb _ _ (r .ignored-fit)) refl
 
 -- ---- 1, 2 and 3, which an entry that is lent an array asks first
 
