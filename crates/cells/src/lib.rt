@@ -1,4 +1,5 @@
 // What a program, an erase and a read do to the bytes that are lent to them.
+use rules::PAGE;
 ghost use mathlib.Core.Path.{_≡_};
 ghost use Prim.Native.Nat.{_+_, _%_, _≤_, _<_};
 ghost use lib.Bits.{bitAnd};
@@ -53,7 +54,7 @@ fn latch(off: usize, bytes: &[u8]) -> [u8; 256]
     let mut buf = [255u8; 256];
     let mut i = 0;
     while i < bytes.len() {
-        let j = (off + i) % 256;
+        let j = (off + i) % PAGE;
         buf[j] = bytes[i];
         i += 1;
     }
@@ -79,7 +80,7 @@ fn program(s: &mut [u8], off: usize, bytes: &[u8])
 {
     let end = off + bytes.len();
     // Nothing wraps, so no place is sent twice.
-    if end <= 256 {
+    if end <= PAGE {
         and_in(&mut s[off..end], bytes);
         return;
     }
@@ -92,9 +93,9 @@ pub fn program_at(array: &mut [u8], a: usize, bytes: &[u8])
     requires { ⌜ (pageStart a + page ≤ length (now array)) × (length (now bytes) < 4294967296) ⌝ }
     ensures { λ _. ⌜ now (array .exit) ≡ programmed (now (array .entry)) a (now (bytes .entry)) ⌝ }
 {
-    let base = a / 256 * 256;
-    let end = base + 256;
-    program(&mut array[base..end], a % 256, bytes);
+    let base = a / PAGE * PAGE;
+    let end = base + PAGE;
+    program(&mut array[base..end], a % PAGE, bytes);
 }
 
 // ---- copies

@@ -2,6 +2,7 @@
 use rules::Kept;
 use rules::Meter;
 use rules::Refusal;
+use rules::TRANSACTION_LIMIT;
 ghost use mathlib.Core.Path.{_≡_};
 ghost use Rattle.rules.specs.Refusals.{refusal, transactRefusal, eventRefusal};
 
@@ -36,7 +37,7 @@ pub fn transaction(
     if !regs::well_formed(parts::status_end(part), kept) {
         return refuse(3);
     }
-    if 4096 < n {
+    if TRANSACTION_LIMIT < n {
         return refuse(4);
     }
     if 7 < x {

@@ -2,6 +2,8 @@
 use crate::decode;
 use rules::Bill;
 use rules::Decoded;
+use rules::PAGE;
+use rules::STEP_LENGTH;
 use rules::Span;
 use rules::Step;
 ghost use mathlib.Core.Path.{_≡_};
@@ -11,11 +13,14 @@ ghost use Rattle.rules.specs.JobRefusals.{jobLimit};
 ghost use Rattle.rules.specs.Records.{pagesTouched, stepBill, noBill, _plus_, billOf};
 ghost use Rattle.job.specs.Counted.{pageLimit, Short, Billable, Counted, Upto, decodedBill};
 
+// The bytes of three records: 06, a write, a finish.
+const THREE: usize = 792;
+
 pub fn pages_touched(s: Span) -> usize
     requires { ⌜ Short s ⌝ }
     ensures { λ r. ⌜ (r ≡ pagesTouched (s .address) (s .length)) × (r ≤ pageLimit) ⌝ }
 {
-    (s.address + s.length - 1) / 256 - s.address / 256 + 1
+    (s.address + s.length - 1) / PAGE - s.address / PAGE + 1
 }
 
 fn lay_bill(s: Span) -> Bill
@@ -27,7 +32,7 @@ fn lay_bill(s: Span) -> Bill
         programs: pages as u32,
         erases: 0,
         writes: 0,
-        length: 792 * pages,
+        length: THREE * pages,
     }
 }
 
@@ -41,14 +46,14 @@ pub fn step_bill(w: Step) -> Bill
             programs: 0,
             erases: 1,
             writes: 0,
-            length: 792,
+            length: THREE,
         },
         Step::Lay(s) => lay_bill(s),
         Step::Guard(_) => Bill {
             programs: 0,
             erases: 0,
             writes: 1,
-            length: 792,
+            length: THREE,
         },
     }
 }
@@ -92,7 +97,7 @@ pub fn bill_of(job: &[u8]) -> Bill
     requires { ⌜ Counted (now job) ⌝ }
     ensures { λ b. ⌜ b ≡ billOf (stepsOf (now (job .entry))) ⌝ }
 {
-    let n = job.len() / 16;
+    let n = job.len() / STEP_LENGTH;
     let mut total = no_bill();
     let mut i = 0;
     while i < n {

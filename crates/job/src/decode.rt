@@ -1,6 +1,7 @@
 // What 16 bytes of a job say.
 use rules::Decoded;
 use rules::EraseUnit;
+use rules::STEP_LENGTH;
 use rules::Span;
 use rules::Step;
 ghost use mathlib.Core.Path.{_≡_};
@@ -93,7 +94,7 @@ pub fn step_at(job: &[u8], i: usize) -> Decoded
     requires { ⌜ i < 4294967296 ⌝ }
     ensures { λ d. ⌜ d ≡ stepAt (now (job .entry)) i ⌝ }
 {
-    let a = 16 * i;
+    let a = STEP_LENGTH * i;
     if !are_zeros(job, a + 2, 2) {
         return Decoded::Bad;
     }

@@ -3,7 +3,11 @@ use crate::decode;
 use lists::Found;
 use rules::Decoded;
 use rules::EraseUnit;
+use rules::JOB_LIMIT;
+use rules::LAY_LIMIT;
+use rules::PAYLOAD_LIMIT;
 use rules::Refusal;
+use rules::STEP_LENGTH;
 use rules::Span;
 use rules::Step;
 ghost use mathlib.Core.Path.{_≡_};
@@ -46,7 +50,7 @@ fn lay_outside(part: u32, s: Span) -> bool
     if s.length == 0 {
         return true;
     }
-    if 4096 < s.length {
+    if LAY_LIMIT < s.length {
         return true;
     }
     size < s.address + s.length
@@ -180,13 +184,13 @@ fn refuse(number: u8) -> Refusal
 fn is_unfit(job: &[u8], payload_length: usize) -> bool
     ensures { λ t. ⌜ t ≡ unfit (now (job .entry)) «payload_length» ⌝ }
 {
-    if job.len() % 16 != 0 {
+    if job.len() % STEP_LENGTH != 0 {
         return true;
     }
-    if 64 < job.len() / 16 {
+    if JOB_LIMIT < job.len() / STEP_LENGTH {
         return true;
     }
-    65536 < payload_length
+    PAYLOAD_LIMIT < payload_length
 }
 
 // The first step that is refused, each at the setting that the guards before it left.
@@ -194,7 +198,7 @@ fn steps_refusal(part: u32, s: u8, job: &[u8], payload_length: usize) -> Refusal
     requires { ⌜ stepCount (now job) ≤ jobLimit ⌝ }
     ensures { λ z. ⌜ z ≡ stepsRefusal (partOf part) s «payload_length» (now (job .entry)) 0 (stepCount (now (job .entry))) ⌝ }
 {
-    let n = job.len() / 16;
+    let n = job.len() / STEP_LENGTH;
     let mut setting = s;
     let mut i = 0;
     while i < n {

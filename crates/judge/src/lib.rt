@@ -1,10 +1,14 @@
 // Whether a command is carried out: document 01's tests, in its order.
 use lists::Found;
+use rules::BLOCK_32;
+use rules::BLOCK_64;
 use rules::Command;
 use rules::EraseUnit;
 use rules::Kind;
+use rules::PAGE;
 use rules::Reason;
 use rules::Regs;
+use rules::SECTOR;
 use rules::Verdict;
 use rules::Write;
 ghost use mathlib.Core.Path.{_≡_};
@@ -21,9 +25,9 @@ pub fn unit_start(u: EraseUnit, a: usize) -> usize
     ensures { λ r. ⌜ r ≡ unitStart u a ⌝ }
 {
     match u {
-        EraseUnit::Sector => a / 4096 * 4096,
-        EraseUnit::Block32 => a / 32768 * 32768,
-        EraseUnit::Block64 => a / 65536 * 65536,
+        EraseUnit::Sector => a / SECTOR * SECTOR,
+        EraseUnit::Block32 => a / BLOCK_32 * BLOCK_32,
+        EraseUnit::Block64 => a / BLOCK_64 * BLOCK_64,
         EraseUnit::Chip => 0,
     }
 }
@@ -32,9 +36,9 @@ pub fn unit_length(part: u32, u: EraseUnit) -> usize
     ensures { λ r. ⌜ r ≡ unitLength (partOf part .size) u ⌝ }
 {
     match u {
-        EraseUnit::Sector => 4096,
-        EraseUnit::Block32 => 32768,
-        EraseUnit::Block64 => 65536,
+        EraseUnit::Sector => SECTOR,
+        EraseUnit::Block32 => BLOCK_32,
+        EraseUnit::Block64 => BLOCK_64,
         EraseUnit::Chip => parts::size_of(part),
     }
 }
@@ -43,7 +47,7 @@ fn reach_start(w: Write, a: usize) -> usize
     ensures { λ r. ⌜ r ≡ reachStart w a ⌝ }
 {
     match w {
-        Write::Program => a / 256 * 256,
+        Write::Program => a / PAGE * PAGE,
         Write::Erase(u) => unit_start(u, a),
         Write::WriteStatus => 0,
     }
@@ -53,7 +57,7 @@ fn reach_length(part: u32, w: Write) -> usize
     ensures { λ r. ⌜ r ≡ reachLength (partOf part) w ⌝ }
 {
     match w {
-        Write::Program => 256,
+        Write::Program => PAGE,
         Write::Erase(u) => unit_length(part, u),
         Write::WriteStatus => 0,
     }

@@ -1,6 +1,7 @@
 // The lines of the listing program, and what it refuses. The program only writes them out.
 use lists::Found;
 use rules::AtPlace;
+use rules::LISTING_LIMIT;
 use rules::Refusal;
 use rules::Sent;
 ghost use mathlib.Core.Path.{_≡_};
@@ -142,7 +143,7 @@ pub fn refused_line(number: u8, index: usize, line: &mut [u8]) -> usize
 pub fn fault_of(tape: &[u8]) -> Refusal
     ensures { λ z. ⌜ z ≡ faultOf (now (tape .entry)) ⌝ }
 {
-    if 65472 < tape.len() {
+    if LISTING_LIMIT < tape.len() {
         return Refusal {
             number: 30,
             index: 0,

@@ -1,4 +1,5 @@
 // The meter: one more program, erase or register write that was carried out, or one more that was ignored.
+use rules::COUNT_LIMIT;
 use rules::Kind;
 use rules::Meter;
 use rules::Write;
@@ -52,10 +53,10 @@ pub fn one_ignored(m: Meter) -> Meter
 fn fits_count(count: u32, n: usize) -> bool
     ensures { λ t. ⌜ t ≡ (count + n ≤? countLimit) ⌝ }
 {
-    if 4294967295 < n {
+    if COUNT_LIMIT < n {
         return false;
     }
-    count as usize <= 4294967295 - n
+    count as usize <= COUNT_LIMIT - n
 }
 
 // Refusal 7: no count plus n exceeds the limit.

@@ -1,5 +1,33 @@
 // The types that document 01 speaks of, by value. What they mean stands in specs/.
 
+// ---- document 01's sizes and limits: one name a rule, as in specs/
+
+pub const PAGE: usize = 256;
+
+pub const SECTOR: usize = 4096;
+
+pub const BLOCK_32: usize = 32768;
+
+pub const BLOCK_64: usize = 65536;
+
+pub const TRANSACTION_LIMIT: usize = 4096;
+
+pub const COUNT_LIMIT: usize = 4294967295;
+
+pub const RECORD_LENGTH: usize = 264;
+
+pub const SENT_LIMIT: usize = 260;
+
+pub const STEP_LENGTH: usize = 16;
+
+pub const JOB_LIMIT: usize = 64;
+
+pub const PAYLOAD_LIMIT: usize = 65536;
+
+pub const LAY_LIMIT: usize = 4096;
+
+pub const LISTING_LIMIT: usize = 65472;
+
 // ---- what the caller keeps
 
 // The registers as the caller keeps them: 16 status bits, and 1 for awake or 0 for asleep.

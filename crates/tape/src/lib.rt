@@ -1,6 +1,8 @@
 // A tape's records: read at a place, checked, written. The place is a number first; the reader stands above.
 use lists::Found;
 use rules::AtPlace;
+use rules::RECORD_LENGTH;
+use rules::SENT_LIMIT;
 use rules::Sent;
 ghost use mathlib.Core.Path.{_≡_};
 ghost use mathlib.Core.List.{_++_};
@@ -18,13 +20,13 @@ ghost use Rattle.tape.specs.Record.{headGood, saidAt, readingAt};
 pub fn is_whole(tape: &[u8]) -> bool
     ensures { λ r. ⌜ r ≡ whole (now (tape .entry)) ⌝ }
 {
-    tape.len() % 264 == 0
+    tape.len() % RECORD_LENGTH == 0
 }
 
 pub fn record_count(tape: &[u8]) -> usize
     ensures { λ r. ⌜ r ≡ records (now (tape .entry)) ⌝ }
 {
-    tape.len() / 264
+    tape.len() / RECORD_LENGTH
 }
 
 // The first record that 31 refuses.
@@ -61,7 +63,7 @@ fn sent_length(tape: &[u8], place: usize) -> usize
     requires { ⌜ place < records (now tape) ⌝ }
     ensures { λ r. ⌜ (r ≡ lengthAt (now (tape .entry)) place) × (r < 65536) ⌝ }
 {
-    let at = 264 * place;
+    let at = RECORD_LENGTH * place;
     tape[at] as usize * 256 + tape[at + 1] as usize
 }
 
@@ -69,7 +71,7 @@ fn sent_length(tape: &[u8], place: usize) -> usize
 fn is_good_head(n: usize, kind: u8, bits: u8) -> bool
     ensures { λ r. ⌜ r ≡ headGood n kind bits ⌝ }
 {
-    if 260 < n {
+    if SENT_LIMIT < n {
         return false;
     }
     if 2 < kind {
@@ -92,13 +94,13 @@ pub fn is_good(tape: &[u8], place: usize) -> bool
     requires { ⌜ place < records (now tape) ⌝ }
     ensures { λ r. ⌜ r ≡ goodRecord (now (tape .entry)) place ⌝ }
 {
-    let at = 264 * place;
+    let at = RECORD_LENGTH * place;
     let n = sent_length(tape, place);
     if !is_good_head(n, tape[at + 2], tape[at + 3]) {
         return false;
     }
     let from = at + 4 + n;
-    let end = at + 264;
+    let end = at + RECORD_LENGTH;
     all_zero(&tape[from..end])
 }
 
@@ -107,7 +109,7 @@ pub fn said_at(tape: &[u8], place: usize) -> AtPlace
     requires { ⌜ place < records (now tape) ⌝ }
     ensures { λ r. ⌜ r ≡ saidAt (now (tape .entry)) place ⌝ }
 {
-    let at = 264 * place;
+    let at = RECORD_LENGTH * place;
     let kind = tape[at + 2];
     if kind == 0 {
         let bits = tape[at + 3];

@@ -1,7 +1,10 @@
 // A job's steps become records on the lent tape.
 use rules::Decoded;
 use rules::EraseUnit;
+use rules::PAGE;
+use rules::RECORD_LENGTH;
 use rules::Refusal;
+use rules::STEP_LENGTH;
 use rules::Span;
 use rules::Step;
 use rules::Translated;
@@ -25,8 +28,8 @@ fn put_sent(tape: &mut [u8], k: usize, b: &[u8])
     requires { ⌜ Fits (now tape) k 1 × (length (now b) ≤ 260) ⌝ }
     ensures { λ _. ⌜ now (tape .exit) ≡ spliced (now (tape .entry)) (recordLength * k) (encodeRec (Rec.transaction (now (b .entry)) 0 true)) ⌝ }
 {
-    let at = 264 * k;
-    let end = at + 264;
+    let at = RECORD_LENGTH * k;
+    let end = at + RECORD_LENGTH;
     tape::put_transaction(&mut tape[at..end], b, 0, true);
 }
 
@@ -34,8 +37,8 @@ fn put_end(tape: &mut [u8], k: usize)
     requires { ⌜ Fits (now tape) k 1 ⌝ }
     ensures { λ _. ⌜ now (tape .exit) ≡ spliced (now (tape .entry)) (recordLength * k) (encodeRec Rec.finish) ⌝ }
 {
-    let at = 264 * k;
-    let end = at + 264;
+    let at = RECORD_LENGTH * k;
+    let end = at + RECORD_LENGTH;
     tape::put_finish(&mut tape[at..end]);
 }
 
@@ -116,7 +119,7 @@ fn put_lay(tape: &mut [u8], k: usize, s: Span, payload: &[u8])
     let mut left = s.length;
     let mut i = 0;
     while i < n {
-        let room = 256 - a % 256;
+        let room = PAGE - a % PAGE;
         let count = lists::lesser(room, left);
         let end = o + count;
         put_program(tape, k + 3 * i, a, &payload[o..end]);
@@ -164,7 +167,7 @@ fn put_steps(part: u32, tape: &mut [u8], job: &[u8], payload: &[u8])
     requires { ⌜ WritableJob (partOf part) (now payload) (now job) × Fits (now tape) 0 (length (jobRecs (partOf part) (now payload) (stepsOf (now job)))) ⌝ }
     ensures { λ _. ⌜ now (tape .exit) ≡ spliced (now (tape .entry)) 0 (encode (jobRecs (partOf part) (now (payload .entry)) (stepsOf (now (job .entry))))) ⌝ }
 {
-    let n = job.len() / 16;
+    let n = job.len() / STEP_LENGTH;
     let mut k = 0;
     let mut i = 0;
     while i < n {
