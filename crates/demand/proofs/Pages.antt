@@ -60,7 +60,7 @@ pages-more n a bs es = refl
 
 module _ (p : Part) (law : Tapeable p) where
   program-says : (a : ℕ) (bs : List ℕ) → 0 < length bs → Says p (Writes Program) (programBytes a bs)
-  program-says a bs some = record { some = omega arith; code = refl; shape = law .five-or-mored (length (programBytes a bs)) (omega arith) }
+  program-says a bs some = record { some = omega arith; code = refl; shape = law .program-shaped (length (programBytes a bs)) (omega arith) }
 
   page-play : (s : State) → Fit p s → (a : ℕ) (bs : List ℕ) → Layable p s a (length bs) → a % page + length bs ≤ page → (es : List Rec)
       → play p (three (programBytes a bs) ++ es) s ≡ play p es (afterLay s a bs 1)

@@ -26,7 +26,7 @@ pub record Tapeable (p : Part) : Type 0 where
   pub sound : Sound p
   -- the byte counts that a tape sends are right for the chip, with no leftover bits
   pub enable-shaped : shaped p (codeOf WriteEnable) 1 0 ≡ true
-  pub five-or-mored : (n : ℕ) → 5 ≤ n → shaped p (codeOf (Writes Program)) n 0 ≡ true
+  pub program-shaped : (n : ℕ) → 5 ≤ n → shaped p (codeOf (Writes Program)) n 0 ≡ true
   pub erase-shaped : (u : EraseUnit) (a : ℕ) → shaped p (codeOf (Writes (Erase u))) (length (eraseBytes u a)) 0 ≡ true
   pub guard-shaped : (g : ℕ) → g ≤ settingLimit → shaped p (codeOf (Writes WriteStatus)) (suc (length (p .guardBytes g))) 0 ≡ true
   -- a guard's bytes fit a record
@@ -56,7 +56,7 @@ part-tapeable part =
     record {
       sound = part-sound part;
       enable-shaped = refl;
-      five-or-mored = λ n h. rw (le-leb 5 n h);
+      program-shaped = λ n h. rw (le-leb 5 n h);
       erase-shaped = erases;
       guard-shaped = λ g h. refl;
       guard-short = λ g h. lit≤ tt;

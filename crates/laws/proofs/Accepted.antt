@@ -50,7 +50,10 @@ room-had m n r = rw (le-leb _ _ (r .programs-fit), le-leb _ _ (r .erases-fit), l
 -- .. and then w
 abbrev firstThree : ℕ → ℕ → Kept → Refusal → Refusal
 firstThree part al kept w =
-    if not (isPart part) then refusal 1 else if not (al =? partOf part .size) then refusal 2 else if not (wellFormed (partOf part .statusEnd) kept) then refusal 3 else w
+    if not (isPart part) then refusal 1 else
+    if not (al =? partOf part .size) then refusal 2 else
+    if not (wellFormed (partOf part .statusEnd) kept) then refusal 3 else
+    w
 
 pub record Opened (part al : ℕ) (kept : Kept) : Type 0 where
   pub known : isPart part ≡ true

@@ -1,12 +1,12 @@
--- Records that a tape can hold.
+-- Records that a tape can hold: "the length 0 to 260", and leftover bits 0 to 7.
 use mathlib.Core.Bool.{Bool}
 use mathlib.Core.List.{List, [], _∷_, _++_}
 use Prim.Native.Nat.{ℕ, _≤_}
 use lib.ListN.{length}
-use Rattle.rules.specs.Tape.{Rec, transaction, finish, powerCycle}
+use Rattle.rules.specs.Tape.{Rec, transaction, finish, powerCycle, sentLimit}
 
 pub data RecOk : Rec → Type 0 where
-  transaction-ok : {b : List ℕ} {x : ℕ} {high : Bool} → length b ≤ 260 → x ≤ 7 → RecOk (transaction b x high)
+  transaction-ok : {b : List ℕ} {x : ℕ} {high : Bool} → length b ≤ sentLimit → x ≤ 7 → RecOk (transaction b x high)
   finish-ok : RecOk finish
   power-ok : RecOk powerCycle
 

@@ -1,3 +1,4 @@
+-- Search closes all of it; written out so that the first error of a must-fail edit stands here, and not at a caller.
 use borrow.Author.Needs.{needs}
 use Rattle.lines.proofs.index_text.Statement.{statement}
 use Rattle.lines.proofs.index_text.Tie as tie

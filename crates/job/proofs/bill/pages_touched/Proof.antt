@@ -1,3 +1,4 @@
+-- Search closes all of it; written out so that the first error of a must-fail edit stands here, and not at a caller.
 use borrow.Author.Needs.{needs}
 use Rattle.job.proofs.bill.pages_touched.Statement.{statement}
 use Rattle.job.proofs.bill.pages_touched.Tie as tie
