@@ -8,7 +8,7 @@ ghost use Rattle.rules.specs.Kinds.{ofKnown};
 ghost use Rattle.rules.specs.Part.{commandOf};
 ghost use Rattle.rules.specs.Parts.{partOf};
 ghost use Rattle.rules.specs.Counts.{meterAfter};
-ghost use Rattle.rules.specs.CountEntry.{meterTold, countOf};
+ghost use Rattle.rules.specs.CountEntry.{meterByAnswer, countOf};
 ghost use Rattle.laws.specs.Room.{Room};
 
 // What a number says as a first byte: over 255 it is none, and no command.
@@ -35,7 +35,7 @@ fn carried_out(m: Meter, c: Command) -> Meter
 // The meter after an answer.
 fn answered(part: u32, m: Meter, number: u32, op: u32) -> Meter
     requires { ⌜ Room m 1 ⌝ }
-    ensures { λ t. ⌜ t ≡ meterTold (partOf part) m number op ⌝ }
+    ensures { λ t. ⌜ t ≡ meterByAnswer (partOf part) m number op ⌝ }
 {
     if number == 0 {
         return carried_out(m, command_said(part, op));

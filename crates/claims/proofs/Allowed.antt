@@ -20,7 +20,7 @@ use Rattle.rules.specs.Kinds.{ofWrite}
 use Rattle.rules.specs.Part.{Part, commandOf, shaped}
 use Rattle.rules.specs.Protection.{isProtected}
 use Rattle.rules.specs.Writes.{reachStart, reachLength, locked, lockedOut, arrayWritten}
-use Rattle.rules.specs.Verdict.{addressOf, asleep, held, verdictOf}
+use Rattle.rules.specs.Verdict.{addressOf, unheardAsleep, unheardBusy, verdictOf}
 use Rattle.rules.specs.Transaction.{Turn, drivenAt, regsDone, turnOf}
 use Rattle.laws.proofs.Protection.{none-protected, bare-none}
 use Rattle.laws.proofs.CarriedOut.{Passed, carried-passed, passed-carried, turn-is}
@@ -43,7 +43,7 @@ pub record MayWrite (p : Part) (r : Regs) (high : Bool) (a : ℕ) (w : Write) : 
 -- bytes b with x leftover bits, as a command of kind k
 pub record Allowed (p : Part) (r : Regs) (b : List ℕ) (x : ℕ) (high : Bool) (k : Kind) : Type 0 where
   -- at least one whole byte
-  pub some : 0 < length b
+  pub not-empty : 0 < length b
   -- awake, or a code that is heard asleep
   pub awake : (r .awake ≡ true) ⊎ (p .heardAsleep (getD b 0 0) ≡ true)
   -- idle, or a code that is heard while BUSY is 1
@@ -51,7 +51,7 @@ pub record Allowed (p : Part) (r : Regs) (b : List ℕ) (x : ℕ) (high : Bool) 
   -- the code stands in the table, and byte count and leftover bits are those of its row
   pub known : commandOf p (getD b 0 0) ≡ Known k
   pub formed : shaped p (getD b 0 0) (length b) x ≡ true
-  pub writes : (w : Write) → k ≡ Writes w → MayWrite p r high (addressOf p b) w
+  pub may-write : (w : Write) → k ≡ Writes w → MayWrite p r high (addressOf p b) w
 
 -- ---- and what it does then
 
@@ -63,15 +63,15 @@ pub record Effect (p : Part) (r : Regs) (l b : List ℕ) (k : Kind) (t : Turn) :
 
 -- ---- the tests, said positively
 
-asleep-is : (p : Part) (r : Regs) (op : ℕ) → asleep p r op ≡ false ↔ (r .awake ≡ true) ⊎ (p .heardAsleep op ≡ true)
-unfolding asleep ⊎-map
-asleep-is p r op =
+unheard-asleep-is : (p : Part) (r : Regs) (op : ℕ) → unheardAsleep p r op ≡ false ↔ (r .awake ≡ true) ⊎ (p .heardAsleep op ≡ true)
+unfolding unheardAsleep ⊎-map
+unheard-asleep-is p r op =
     let h = both-false (not (r .awake)) (not (p .heardAsleep op)) in
     (λ e. ⊎-map (not-false _) (not-false _) (h .0 e), λ e. h .1 (⊎-map (ap not) (ap not) e))
 
-held-is : (p : Part) (r : Regs) (op : ℕ) → held p r op ≡ false ↔ (r .busy ≡ false) ⊎ (p .heardBusy op ≡ true)
-unfolding held ⊎-map
-held-is p r op =
+unheard-busy-is : (p : Part) (r : Regs) (op : ℕ) → unheardBusy p r op ≡ false ↔ (r .busy ≡ false) ⊎ (p .heardBusy op ≡ true)
+unfolding unheardBusy ⊎-map
+unheard-busy-is p r op =
     let h = both-false (r .busy) (not (p .heardBusy op)) in
     (λ e. ⊎-map (λ d. d) (not-false _) (h .0 e), λ e. h .1 (⊎-map (λ d. d) (ap not) e))
 
@@ -101,13 +101,13 @@ module _ (p : Part) (r : Regs) (b : List ℕ) (x : ℕ) (high : Bool) (k : Kind)
   passes h =
       let op = getD b 0 0 in
       record {
-        some = h .some;
-        awake = asleep-is p r op .1 (h .awake);
-        idle = held-is p r op .1 (h .idle);
+        not-empty = h .not-empty;
+        awake = unheard-asleep-is p r op .1 (h .awake);
+        idle = unheard-busy-is p r op .1 (h .idle);
         known = h .known;
         formed = h .formed;
-        writes =
-            λ w q. let m = h .writes w q in
+        may-write =
+            λ w q. let m = h .may-write w q in
             record {
               enabled = m .enabled;
               unlocked = locked-out-is r high w .1 (m .unlocked);
@@ -120,13 +120,13 @@ module _ (p : Part) (r : Regs) (b : List ℕ) (x : ℕ) (high : Bool) (k : Kind)
       let op = getD b 0 0 in
       let h = carried-passed p r b x high k e in
       record {
-        some = h .some;
-        awake = asleep-is p r op .0 (h .awake);
-        idle = held-is p r op .0 (h .idle);
+        not-empty = h .not-empty;
+        awake = unheard-asleep-is p r op .0 (h .awake);
+        idle = unheard-busy-is p r op .0 (h .idle);
         known = h .known;
         formed = h .formed;
-        writes =
-            λ w q. let m = h .writes w q in
+        may-write =
+            λ w q. let m = h .may-write w q in
             record {
               enabled = m .enabled;
               unlocked = locked-out-is r high w .0 (m .unlocked);

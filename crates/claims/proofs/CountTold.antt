@@ -20,7 +20,7 @@ use Rattle.rules.specs.Parts.{isPart, partOf}
 use Rattle.rules.specs.Status.{regsOf}
 use Rattle.rules.specs.Verdict.{verdictTold, verdictOf}
 use Rattle.rules.specs.Counts.{meterAfter, room}
-use Rattle.rules.specs.CountEntry.{meterTold, metered, countOf}
+use Rattle.rules.specs.CountEntry.{meterByAnswer, metered, countOf}
 use Rattle.rules.specs.Transaction.{turnBy, turnOf}
 use Rattle.rules.specs.Refusals.{accepted, transactRefusal}
 use Rattle.rules.specs.Transact.{AnswerTold, isHigh, transactServed, transactRefused, transactBy, transactOf}
@@ -33,18 +33,18 @@ use Rattle.claims.proofs.NumbersTell.{holdsIn, none-holds, transact-row
 -- ---- what `countOf` says of a number
 
 -- with a part and with room it is served
-served-at : (part : ℕ) (m : Meter) (n op : ℕ) → isPart part ≡ true → Room m 1 → countOf part m n op ≡ metered 0 (meterTold (partOf part) m n op)
+served-at : (part : ℕ) (m : Meter) (n op : ℕ) → isPart part ≡ true → Room m 1 → countOf part m n op ≡ metered 0 (meterByAnswer (partOf part) m n op)
 unfolding countOf if_then_else_
 served-at part m n op h k = rw (h, room-had m 1 k) refl
 
 -- a refusal's number leaves the meter
 left-at : (part : ℕ) (m : Meter) (n op : ℕ) → (n ≡ 0 → ⊥) → n < 10 → countOf part m n op .meter ≡ m
-unfolding countOf meterTold if_then_else_
+unfolding countOf meterByAnswer if_then_else_
 left-at part m n op h k =
     by-choice (λ (t : Metered). t .meter ≡ m) (not (isPart part)) (metered 1 m) _ refl
-    (by-choice (λ (t : Metered). t .meter ≡ m) (not (room m 1)) (metered 7 m) (metered 0 (meterTold (partOf part) m n op)) refl told)
+    (by-choice (λ (t : Metered). t .meter ≡ m) (not (room m 1)) (metered 7 m) (metered 0 (meterByAnswer (partOf part) m n op)) refl told)
   where
-    told : meterTold (partOf part) m n op ≡ m
+    told : meterByAnswer (partOf part) m n op ≡ m
     told = rw (ne-eqb n 0 h, lt-leb 10 n k) refl
 
 -- ---- the theorem
@@ -57,8 +57,8 @@ module _ (part : ℕ) (kept : Kept) (m : Meter) (l o b : List ℕ) (x wp : ℕ) 
   v = verdictOf (partOf part) (regsOf kept) b x (isHigh wp)
 
   -- the verdict's number and the first byte give the meter after it
-  told-by : (w : Verdict) → v ≡ w → meterTold (partOf part) m (verdictTold w .number) (getD b 0 0) ≡ meterAfter m w
-  unfolding meterTold ofKnown if_then_else_
+  told-by : (w : Verdict) → v ≡ w → meterByAnswer (partOf part) m (verdictTold w .number) (getD b 0 0) ≡ meterAfter m w
+  unfolding meterByAnswer ofKnown if_then_else_
   told-by (CarriedOut k) e = rw (carried-passed (partOf part) (regsOf kept) b x (isHigh wp) k e .known) refl
   told-by (Ignored w) e =
       let h = ignored-number (partOf part) (regsOf kept) b x (isHigh wp) w e in

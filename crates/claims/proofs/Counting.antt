@@ -32,8 +32,8 @@ pub record Counts (m : Meter) (v : Verdict) (after : Meter) : Type 0 where
   pub programs-stay : NotProgram v → after .programs ≡ m .programs
   pub erases-rise : (u : EraseUnit) → v ≡ CarriedOut (Writes (Erase u)) → after .erases ≡ m .erases + 1
   pub erases-stay : NotErase v → after .erases ≡ m .erases
-  pub writes-rise : v ≡ CarriedOut (Writes WriteStatus) → after .writes ≡ m .writes + 1
-  pub writes-stay : NotStatus v → after .writes ≡ m .writes
+  pub register-writes-rise : v ≡ CarriedOut (Writes WriteStatus) → after .«register_writes» ≡ m .«register_writes» + 1
+  pub register-writes-stay : NotStatus v → after .«register_writes» ≡ m .«register_writes»
   pub ignored-rise : (w : Reason) → v ≡ Ignored w → after .ignored ≡ m .ignored + 1
   pub ignored-stay : NotIgnored v → after .ignored ≡ m .ignored
 
@@ -60,10 +60,10 @@ module _ (m : Meter) where
   erases-of (Erase u) h = absurd (h u refl)
   erases-of WriteStatus h = refl
 
-  writes-of : (w : Write) → NotStatus (CarriedOut (Writes w)) → counted m w .writes ≡ m .writes
-  writes-of Program h = refl
-  writes-of (Erase u) h = refl
-  writes-of WriteStatus h = absurd (h refl)
+  register-writes-of : (w : Write) → NotStatus (CarriedOut (Writes w)) → counted m w .«register_writes» ≡ m .«register_writes»
+  register-writes-of Program h = refl
+  register-writes-of (Erase u) h = refl
+  register-writes-of WriteStatus h = absurd (h refl)
 
   ignored-of : (w : Write) → NotIgnored (CarriedOut (Writes w)) → counted m w .ignored ≡ m .ignored
   ignored-of Program h = refl
@@ -78,8 +78,8 @@ module _ (m : Meter) where
         programs-stay = stays (λ a. a .programs) NotProgram programs-of (λ w h. refl) v;
         erases-rise = λ u. ap (λ (s : Verdict). meterAfter m s .erases);
         erases-stay = stays (λ a. a .erases) NotErase erases-of (λ w h. refl) v;
-        writes-rise = ap (λ (u : Verdict). meterAfter m u .writes);
-        writes-stay = stays (λ a. a .writes) NotStatus writes-of (λ w h. refl) v;
+        register-writes-rise = ap (λ (u : Verdict). meterAfter m u .«register_writes»);
+        register-writes-stay = stays (λ a. a .«register_writes») NotStatus register-writes-of (λ w h. refl) v;
         ignored-rise = λ w. ap (λ (u : Verdict). meterAfter m u .ignored);
         ignored-stay = stays (λ a. a .ignored) NotIgnored ignored-of (λ w h. absurd (h w refl)) v;
       }

@@ -108,13 +108,13 @@ module _ (p : Part) (steady : Steady p) (r : Regs) (b : List ℕ) (x : ℕ) (hig
   formed-idle i ReadMakerDevice a = h
   formed-idle i ReadJedec a = h
   formed-idle i (Writes Program) a =
-      record { small = h .small; busy-wel = λ e. a .writes Program refl .enabled; busy-awake = λ e. was-awake Program a }
+      record { small = h .small; busy-wel = λ e. a .may-write Program refl .enabled; busy-awake = λ e. was-awake Program a }
   formed-idle i (Writes (Erase u)) a =
-      record { small = h .small; busy-wel = λ e. a .writes (Erase u) refl .enabled; busy-awake = λ e. was-awake (Erase u) a }
+      record { small = h .small; busy-wel = λ e. a .may-write (Erase u) refl .enabled; busy-awake = λ e. was-awake (Erase u) a }
   formed-idle i (Writes WriteStatus) a =
       record {
         small = steady .status-small r b;
-        busy-wel = λ e. steady .status-wel r b ∙ a .writes WriteStatus refl .enabled;
+        busy-wel = λ e. steady .status-wel r b ∙ a .may-write WriteStatus refl .enabled;
         busy-awake = λ e. steady .status-awake r b ∙ was-awake WriteStatus a;
       }
 

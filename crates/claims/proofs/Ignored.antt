@@ -25,7 +25,7 @@ use Rattle.rules.specs.Part.{Part, commandOf, shaped}
 use Rattle.rules.specs.Protection.{firstProtected}
 use Rattle.rules.specs.Cells.{ff}
 use Rattle.rules.specs.Writes.{reachStart, reachLength, lockedOut}
-use Rattle.rules.specs.Verdict.{ignored, addressOf, asleep, held, protectionVerdict, writeVerdict, kindVerdict, judgeOf, verdictOf}
+use Rattle.rules.specs.Verdict.{ignored, addressOf, unheardAsleep, unheardBusy, protectionVerdict, writeVerdict, kindVerdict, judgeOf, verdictOf}
 use Rattle.rules.specs.Transaction.{Turn, turnOf}
 use Rattle.rules.specs.Counts.{meterAfter}
 use Rattle.laws.proofs.CarriedOut.{by-write, turn-is}
@@ -67,8 +67,8 @@ ignored-number p r b x high w e =
     let op = getD b 0 0 in
     let numbered : Numbered (verdictOf p r b x high) =
     next (length b =? 0) 12 _ (lit≤ tt) (lit≤ tt)
-    (next (asleep p r op) 11 _ (lit≤ tt) (lit≤ tt)
-    (next (held p r op) 10 _ (lit≤ tt) (lit≤ tt) (command-numbered p r (length b) x high op (addressOf p b) (commandOf p op)))) in
+    (next (unheardAsleep p r op) 11 _ (lit≤ tt) (lit≤ tt)
+    (next (unheardBusy p r op) 10 _ (lit≤ tt) (lit≤ tt) (command-numbered p r (length b) x high op (addressOf p b) (commandOf p op)))) in
     subst Numbered e numbered
 
 -- ---- what an ignored transaction changes
@@ -80,7 +80,7 @@ pub record OneCount (r : Regs) (l : List ℕ) (m : Meter) (n : ℕ) (t : Turn) (
   pub array : t .array ≡ l
   pub programs : after .programs ≡ m .programs
   pub erases : after .erases ≡ m .erases
-  pub writes : after .writes ≡ m .writes
+  pub register-writes : after .«register_writes» ≡ m .«register_writes»
   pub ignored : after .ignored ≡ m .ignored + 1
 
 pub ignored-changes-one-count : (p : Part) (r : Regs) (l b : List ℕ) (x : ℕ) (high : Bool) (m : Meter) (w : Reason)
@@ -88,4 +88,4 @@ pub ignored-changes-one-count : (p : Part) (r : Regs) (l b : List ℕ) (x : ℕ)
     → OneCount r l m (length b) (turnOf p r l b x high) (meterAfter m (turnOf p r l b x high .verdict))
 ignored-changes-one-count p r l b x high m w e =
     rw (turn-is p r l b x high (Ignored w) e)
-    (record { out = refl; regs = refl; array = refl; programs = refl; erases = refl; writes = refl; ignored = refl })
+    (record { out = refl; regs = refl; array = refl; programs = refl; erases = refl; register-writes = refl; ignored = refl })

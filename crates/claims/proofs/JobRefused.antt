@@ -22,7 +22,7 @@ use Rattle.rules.specs.Parts.{isPart, partOf}
 use Rattle.rules.specs.Protection.{isProtected, firstProtected}
 use Rattle.rules.specs.Job.{settingLimit, stepAt, stepCount}
 use Rattle.rules.specs.Refusals.{refusal, refusalAt, _orElse_}
-use Rattle.rules.specs.JobRefusals.{unfit, outside, beyond, stepStart, stepReach, some, shielded, stepNumber, decodedNumber, stepsRefusal, jobRefusal}
+use Rattle.rules.specs.JobRefusals.{unfit, outside, beyond, stepStart, stepReach, wasFound, shielded, stepNumber, decodedNumber, stepsRefusal, jobRefusal}
 use Rattle.job.specs.Carried.{settingAt}
 
 -- ---- the statement
@@ -72,7 +72,7 @@ pub shielded-byte : (p : Part) (s : ℕ) (w : Step) → shielded p s w ≡ true 
 unfolding shielded firstProtected
 shielded-byte p s w e = go (firstProtected p s (stepStart w) (stepReach p w)) refl e
   where
-    go : (f : Found) → firstProtected p s (stepStart w) (stepReach p w) ≡ f → some f ≡ true → (y : ℕ) × Lowest (isProtected p s) (stepStart w) (stepReach p w) y
+    go : (f : Found) → firstProtected p s (stepStart w) (stepReach p w) ≡ f → wasFound f ≡ true → (y : ℕ) × Lowest (isProtected p s) (stepStart w) (stepReach p w) y
     go (At y) q h = (y, first-at (isProtected p s) (stepStart w) (stepReach p w) y q)
     go Nothing q h = let z : _≡_ {A = ℕ} 0 1 = cc in absurd (omega arith)
 

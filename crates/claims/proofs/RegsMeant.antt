@@ -11,7 +11,7 @@ use Rattle.rules.specs.declared.Kept.{Kept}
 use Rattle.rules.specs.declared.Meter.{Meter}
 use Rattle.rules.specs.declared.Regs.{Regs}
 use Rattle.rules.specs.declared.Step.{Step}
-use Rattle.rules.specs.declared.Step.the-variants.{Erase, Lay, Guard}
+use Rattle.rules.specs.declared.Step.the-variants.{EraseAt, Lay, Guard}
 use Rattle.rules.specs.declared.Decoded.{Decoded}
 use Rattle.rules.specs.declared.Decoded.the-variants.{Good, Bad}
 use Rattle.rules.specs.Parts.{partOf}
@@ -32,7 +32,7 @@ lastSetting s [] = s
 lastSetting s (w ∷ ws) = lastSetting (settingMeant s w) ws
 
 abbrev pub isGuard : Step → Bool
-isGuard (Erase u a) = false
+isGuard (EraseAt u a) = false
 isGuard (Lay s) = false
 isGuard (Guard g) = true
 
@@ -78,7 +78,7 @@ unguarded r t w ws e f h =
 pub regs-said : (r : Regs) (ws : List Step) → RegsSaid r ws (allRegsMeant r ws)
 unfolding allRegsMeant lastSetting hasGuard if_then_else_
 regs-said r [] = record { busy = refl; awake = refl; setting = refl; wel = refl; srp0 = refl; srp1 = refl; qe = refl }
-regs-said r (Erase u a ∷ ws) = unguarded r _ (Erase u a) ws refl refl (regs-said (withWel r false) ws)
+regs-said r (EraseAt u a ∷ ws) = unguarded r _ (EraseAt u a) ws refl refl (regs-said (withWel r false) ws)
 regs-said r (Lay s ∷ ws) = unguarded r _ (Lay s) ws refl refl (regs-said (withWel r false) ws)
 regs-said r (Guard g ∷ ws) =
     let h = regs-said (regsMeant r (Guard g)) ws in

@@ -36,7 +36,7 @@ module _ (p : Part) (sound : Sound p) (r : Regs) (l b : List ℕ) (x : ℕ) (hig
   out-of-reach : (w : Write) → verdictOf p r b x high ≡ CarriedOut (Writes w) → (y : ℕ) → isProtected p (r .setting) y ≡ true
       → In (reachStart w (addressOf p b)) (reachLength p w) y → ⊥
   out-of-reach w e y h i =
-      let bare = carried-passed p r b x high (Writes w) e .writes w refl .bare in
+      let bare = carried-passed p r b x high (Writes w) e .may-write w refl .bare in
       let q = none-protected p (r .setting) (reachStart w (addressOf p b)) (reachLength p w) bare y (i .0) (i .1) in
       let z : _≡_ {A = ℕ} 0 1 = cc in
       omega arith

@@ -7,7 +7,7 @@ use borrow.Author.Tests.{eqb-true, eq-eqb, leb-true, le-leb}
 use Rattle.lists.specs.Choice.{if_then_else_, _=?_}
 use Rattle.lists.proofs.Choice.{both-true}
 use Rattle.rules.specs.declared.Command.the-variants.{Known, Unknown}
-use Rattle.rules.specs.Part.{Part, Bytes, exactly, either, orMore, Leftover, none, any, Row, takes, leaves, commandIn, shapedIn, commandOf, shaped}
+use Rattle.rules.specs.Part.{Part, Bytes, exactly, either, orMore, Leftover, noBits, anyBits, Row, takes, leaves, commandIn, shapedIn, commandOf, shaped}
 use Rattle.rules.specs.Fm25q16.{fmCommands, fmHeardAsleep, fmHeardBusy, fm25q16}
 use Rattle.rules.specs.Parts.{partOf}
 use Rattle.laws.proofs.Rows.{Each, Unlisted, end, _⊳_, no-command}
@@ -20,8 +20,8 @@ Takes (either j k) n = (n ≡ j) ⊎ (n ≡ k)
 Takes (orMore k) n = k ≤ n
 
 abbrev pub Leaves : Leftover → ℕ → Type 0
-Leaves none x = x ≡ 0
-Leaves any x = Unit {0}
+Leaves noBits x = x ≡ 0
+Leaves anyBits x = Unit {0}
 
 takes-is : (b : Bytes) (n : ℕ) → takes b n ≡ true ↔ Takes b n
 unfolding takes ⊎-map
@@ -33,8 +33,8 @@ takes-is (orMore k) n = (leb-true k n, le-leb k n)
 
 leaves-is : (x : Leftover) (n : ℕ) → leaves x n ≡ true ↔ Leaves x n
 unfolding leaves
-leaves-is none n = (eqb-true n 0, eq-eqb n 0)
-leaves-is any n = (λ e. tt, λ e. refl)
+leaves-is noBits n = (eqb-true n 0, eq-eqb n 0)
+leaves-is anyBits n = (λ e. tt, λ e. refl)
 
 -- a row's rule
 rule : (b : Bytes) (y : Leftover) (n x : ℕ) → (takes b n && leaves y x) ≡ true ↔ Takes b n × Leaves y x
@@ -52,23 +52,23 @@ Decides part w =
 pub rows-decide : Each (Decides 1) fmCommands
 unfolding partOf fm25q16 commandOf shaped commandIn shapedIn fmCommands if_then_else_
 rows-decide =
-    (refl, rule (exactly 1) none)
-    ⊳ (refl, rule (exactly 1) none)
-    ⊳ (refl, rule (orMore 1) any)
-    ⊳ (refl, rule (orMore 1) any)
-    ⊳ (refl, rule (either 2 3) none)
-    ⊳ (refl, rule (orMore 4) any)
-    ⊳ (refl, rule (orMore 5) any)
-    ⊳ (refl, rule (orMore 5) none)
-    ⊳ (refl, rule (exactly 4) none)
-    ⊳ (refl, rule (exactly 4) none)
-    ⊳ (refl, rule (exactly 4) none)
-    ⊳ (refl, rule (exactly 1) none)
-    ⊳ (refl, rule (exactly 1) none)
-    ⊳ (refl, rule (exactly 1) none)
-    ⊳ (refl, rule (orMore 1) any)
-    ⊳ (refl, rule (orMore 4) any)
-    ⊳ (refl, rule (orMore 1) any)
+    (refl, rule (exactly 1) noBits)
+    ⊳ (refl, rule (exactly 1) noBits)
+    ⊳ (refl, rule (orMore 1) anyBits)
+    ⊳ (refl, rule (orMore 1) anyBits)
+    ⊳ (refl, rule (either 2 3) noBits)
+    ⊳ (refl, rule (orMore 4) anyBits)
+    ⊳ (refl, rule (orMore 5) anyBits)
+    ⊳ (refl, rule (orMore 5) noBits)
+    ⊳ (refl, rule (exactly 4) noBits)
+    ⊳ (refl, rule (exactly 4) noBits)
+    ⊳ (refl, rule (exactly 4) noBits)
+    ⊳ (refl, rule (exactly 1) noBits)
+    ⊳ (refl, rule (exactly 1) noBits)
+    ⊳ (refl, rule (exactly 1) noBits)
+    ⊳ (refl, rule (orMore 1) anyBits)
+    ⊳ (refl, rule (orMore 4) anyBits)
+    ⊳ (refl, rule (orMore 1) anyBits)
     ⊳ end
 
 -- a code that no row has is unknown: 12

@@ -11,13 +11,13 @@ use Rattle.laws.proofs.JobPassed.{StepOk, StepPassed, steps-next}
 
 -- each step at the setting that the steps before it leave
 pub data JobOk (p : Part) : ℕ → ℕ → List Step → Type 0 where
-  none : {s n : ℕ} → JobOk p s n []
+  no-steps : {s n : ℕ} → JobOk p s n []
   next : {s n : ℕ} {w : Step} {ws : List Step} → StepOk p s n w → JobOk p (settingMeant s w) n ws → JobOk p s n (w ∷ ws)
 
 -- "each step in order for 22 to 25"
 pub job-ok : (p : Part) (s n : ℕ) (job : List ℕ) (i k : ℕ) → stepsRefusal p s n job i k .number ≡ 0 → JobOk p s n (stepsFrom job i k)
 unfolding stepsRefusal stepsFrom
-job-ok p s n job i zero e = none
+job-ok p s n job i zero e = no-steps
 job-ok p s n job i (suc k) e =
     let q = steps-next p n job s i k e in
     let ih = job-ok p (settingAfter s (stepAt job i)) n job (suc i) k (q .1) in

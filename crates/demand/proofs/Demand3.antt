@@ -11,7 +11,7 @@ use Rattle.rules.specs.Records.{jobRecs, stepBill, billOf}
 use Rattle.demand.specs.Raised.{raised}
 use Rattle.demand.proofs.Tapeable.{Tapeable}
 use Rattle.demand.proofs.Fit.{Fit}
-use Rattle.demand.proofs.Accept.{JobOk, none, next}
+use Rattle.demand.proofs.Accept.{JobOk, no-steps, next}
 use Rattle.demand.proofs.Rise.{raised-none, raised-plus}
 use Rattle.demand.proofs.Steps.{afterStep, step-play, step-fit, step-setting}
 
@@ -22,7 +22,7 @@ afterJob p payload ws s = state (allRegsMeant (s .regs) ws) (arrayMeant p payloa
 module _ (p : Part) (law : Tapeable p) (payload : List ℕ) where
   pub demand3 : (ws : List Step) (s : State) → Fit p s → JobOk p (s .regs .setting) (length payload) ws → play p (jobRecs p payload ws) s ≡ afterJob p payload ws s
   unfolding jobRecs play allRegsMeant arrayMeant billOf
-  demand3 [] s f none = λ i. state (s .regs) (s .array) (raised-none (s .meter) i)
+  demand3 [] s f no-steps = λ i. state (s .regs) (s .array) (raised-none (s .meter) i)
   demand3 (w ∷ ws) s f (next k ks) =
       let t : State = afterStep p payload w s in
       let rest : JobOk p (t .regs .setting) (length payload) ws = rw (step-setting (s .regs) w) ks in

@@ -8,26 +8,26 @@ use Rattle.rules.specs.declared.EraseUnit.{EraseUnit}
 use Rattle.rules.specs.declared.EraseUnit.the-variants.{Sector, Block32, Block64, Chip}
 use Rattle.rules.specs.declared.Kind.the-variants.{WriteEnable}
 use Rattle.rules.specs.declared.Step.{Step}
-use Rattle.rules.specs.declared.Step.the-variants.{Erase, Lay, Guard}
+use Rattle.rules.specs.declared.Step.the-variants.{EraseAt, Lay, Guard}
 use Rattle.rules.specs.Kinds.{codeOf}
 use Rattle.rules.specs.Part.{Part}
 use Rattle.rules.specs.Tape.{recordLength, sentLimit}
 use Rattle.rules.specs.Job.{settingLimit, layBytes, settingMeant}
-use Rattle.rules.specs.Records.{three, eraseBytes, roomAt, pageRecs, pagesTouched, stepRecs, jobRecs, stepBill, billOf}
-use Rattle.laws.proofs.RecordOk.{RecsOk, none, next, transaction-ok, finish-ok, ok-append}
+use Rattle.rules.specs.Records.{threeRecs, eraseBytes, leftInPage, pageRecs, pagesTouched, stepRecs, jobRecs, stepBill, billOf}
+use Rattle.laws.proofs.RecordOk.{RecsOk, no-recs, next, transaction-ok, finish-ok, ok-append}
 use Rattle.demand.proofs.Tapeable.{Tapeable}
 use Rattle.demand.proofs.Accept.{JobOk}
 use Rattle.demand.proofs.Accept as J
 
 -- ---- each record fits
 
-pub three-ok : (b : List ℕ) → length b ≤ sentLimit → RecsOk (three b)
-three-ok b h = next (transaction-ok {b = codeOf WriteEnable ∷ []} {x = 0} (omega arith) (omega arith)) (next (transaction-ok {x = 0} h (omega arith)) (next finish-ok none))
+pub three-ok : (b : List ℕ) → length b ≤ sentLimit → RecsOk (threeRecs b)
+three-ok b h = next (transaction-ok {b = codeOf WriteEnable ∷ []} {x = 0} (omega arith) (omega arith)) (next (transaction-ok {x = 0} h (omega arith)) (next finish-ok no-recs))
 
 pages-ok : (n a : ℕ) (bs : List ℕ) → RecsOk (pageRecs n a bs)
 unfolding pageRecs
-pages-ok zero a bs = none
-pages-ok (suc n) a bs = ok-append (three-ok _ (omega (arith, length-take (roomAt a) bs))) (pages-ok n (a + roomAt a) (drop (roomAt a) bs))
+pages-ok zero a bs = no-recs
+pages-ok (suc n) a bs = ok-append (three-ok _ (omega (arith, length-take (leftInPage a) bs))) (pages-ok n (a + leftInPage a) (drop (leftInPage a) bs))
 
 erase-short : (u : EraseUnit) (a : ℕ) → length (eraseBytes u a) ≤ sentLimit
 erase-short Sector a = omega arith
@@ -36,13 +36,13 @@ erase-short Block64 a = omega arith
 erase-short Chip a = omega arith
 
 pub step-ok : (p : Part) → Tapeable p → (payload : List ℕ) (w : Step) → settingMeant 0 w ≤ settingLimit → RecsOk (stepRecs p payload w)
-step-ok p law payload (Erase u a) k = three-ok (eraseBytes u a) (erase-short u a)
+step-ok p law payload (EraseAt u a) k = three-ok (eraseBytes u a) (erase-short u a)
 step-ok p law payload (Lay s) k = pages-ok (pagesTouched (s .address) (s .length)) (s .address) (layBytes payload s)
 step-ok p law payload (Guard g) k = three-ok _ (law .guard-short g k)
 
 pub recs-ok : (p : Part) → Tapeable p → (payload : List ℕ) (s n : ℕ) (ws : List Step) → JobOk p s n ws → RecsOk (jobRecs p payload ws)
 unfolding jobRecs
-recs-ok p law payload s n [] J.none = none
+recs-ok p law payload s n [] J.no-steps = no-recs
 recs-ok p law payload s n (w ∷ ws) (J.next k ks) = ok-append (step-ok p law payload w (k .known)) (recs-ok p law payload _ n ws ks)
 
 -- ---- the length of the tape
@@ -50,10 +50,10 @@ recs-ok p law payload s n (w ∷ ws) (J.next k ks) = ok-append (step-ok p law pa
 pub pages-long : (n a : ℕ) (bs : List ℕ) → length (pageRecs n a bs) ≡ 3 * n
 unfolding pageRecs
 pages-long zero a bs = refl
-pages-long (suc n) a bs = let ih = pages-long n (a + roomAt a) (drop (roomAt a) bs) in omega arith
+pages-long (suc n) a bs = let ih = pages-long n (a + leftInPage a) (drop (leftInPage a) bs) in omega arith
 
 step-long : (p : Part) (payload : List ℕ) (w : Step) → length (stepRecs p payload w) * recordLength ≡ stepBill w .length
-step-long p payload (Erase u a) = refl
+step-long p payload (EraseAt u a) = refl
 step-long p payload (Lay w) =
     let e = pages-long (pagesTouched (w .address) (w .length)) (w .address) (layBytes payload w) in omega arith
 step-long p payload (Guard g) = refl

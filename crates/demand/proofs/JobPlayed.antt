@@ -41,7 +41,7 @@ module _ (part s : ℕ) (job payload : List ℕ) (ok : jobRefusal part s job (le
     fit = record { calm = record { awake = ready .awake; idle = ready .idle; unlocked = ready .unlocked }; long = long }
 
     steps-ok : JobOk (partOf part) (regsOf kept .setting) (length payload) (stepsOf job)
-    steps-ok = rw (ready .set) (accepted-ok part s job (length payload) ok)
+    steps-ok = rw (ready .at-setting) (accepted-ok part s job (length payload) ok)
 
     pub job-played : play (partOf part) (recsOfJob part job payload) (state (regsOf kept) l m) ≡ afterJob (partOf part) payload (stepsOf job) (state (regsOf kept) l m)
     job-played = demand3 (partOf part) (part-tapeable part) payload (stepsOf job) (state (regsOf kept) l m) fit steps-ok

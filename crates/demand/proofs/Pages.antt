@@ -18,7 +18,7 @@ use Rattle.rules.specs.Verdict.{addressOf}
 use Rattle.rules.specs.Tape.{Rec}
 use Rattle.rules.specs.Play.{State, state, play}
 use Rattle.rules.specs.Job.{laid}
-use Rattle.rules.specs.Records.{three, addressBytes, roomAt, pageRecs, pagesTouched, tapeLength}
+use Rattle.rules.specs.Records.{threeRecs, addressBytes, leftInPage, pageRecs, pagesTouched, tapeLength}
 use Rattle.demand.specs.Raised.{raised}
 use Rattle.demand.proofs.Lay.{program-is-lay, laid-length, lay-lay}
 use Rattle.demand.proofs.Tapeable.{Tapeable}
@@ -30,12 +30,12 @@ use Rattle.demand.proofs.Rise.{counted-raised, raised-plus}
 
 -- a span that a lay may name: not 23, not 25
 pub record Layable (p : Part) (s : State) (a n : ℕ) : Type 0 where
-  pub some : 0 < n
+  pub not-empty : 0 < n
   pub ends : a + n ≤ p .size
   pub bare : Bare p (s .regs .setting) a n
 
 abbrev pub pagesBill : ℕ → Bill
-pagesBill n = record { programs = n; erases = 0; writes = 0; length = tapeLength n }
+pagesBill n = record { programs = n; erases = 0; «register_writes» = 0; length = tapeLength n }
 
 -- the state after a lay of n pages
 abbrev pub afterLay : State → ℕ → List ℕ → ℕ → State
@@ -47,12 +47,12 @@ programBytes a bs = codeOf (Writes Program) ∷ addressBytes a ++ bs
 
 -- ---- the records of the pages, in ascending order
 
-pages-one : (a : ℕ) (bs : List ℕ) → length bs ≤ roomAt a → (es : List Rec) → pageRecs 1 a bs ++ es ≡ three (programBytes a bs) ++ es
+pages-one : (a : ℕ) (bs : List ℕ) → length bs ≤ leftInPage a → (es : List Rec) → pageRecs 1 a bs ++ es ≡ threeRecs (programBytes a bs) ++ es
 unfolding pageRecs
-pages-one a bs h es = rw (take-all (roomAt a) bs h)
+pages-one a bs h es = rw (take-all (leftInPage a) bs h)
 
 pages-more : (n a : ℕ) (bs : List ℕ) (es : List Rec)
-    → pageRecs (suc n) a bs ++ es ≡ three (programBytes a (take (roomAt a) bs)) ++ (pageRecs n (a + roomAt a) (drop (roomAt a) bs) ++ es)
+    → pageRecs (suc n) a bs ++ es ≡ threeRecs (programBytes a (take (leftInPage a) bs)) ++ (pageRecs n (a + leftInPage a) (drop (leftInPage a) bs) ++ es)
 unfolding pageRecs
 pages-more n a bs es = refl
 
@@ -60,41 +60,41 @@ pages-more n a bs es = refl
 
 module _ (p : Part) (law : Tapeable p) where
   program-says : (a : ℕ) (bs : List ℕ) → 0 < length bs → Says p (Writes Program) (programBytes a bs)
-  program-says a bs some = record { some = omega arith; code = refl; shape = law .program-shaped (length (programBytes a bs)) (omega arith) }
+  program-says a bs not-empty = record { not-empty = omega arith; code = refl; shape = law .program-shaped (length (programBytes a bs)) (omega arith) }
 
   page-play : (s : State) → Fit p s → (a : ℕ) (bs : List ℕ) → Layable p s a (length bs) → a % page + length bs ≤ page → (es : List Rec)
-      → play p (three (programBytes a bs) ++ es) s ≡ play p es (afterLay s a bs 1)
+      → play p (threeRecs (programBytes a bs) ++ es) s ≡ play p es (afterLay s a bs 1)
   page-play s f a bs q room es =
-      let some = q .some in
+      let not-empty = q .not-empty in
       let ends = q .ends in
       let long = f .long in
       let size = law .sound .size-is in
       let back : addressOf p (programBytes a bs) ≡ a = address-back p (law .sound) _ a bs (omega arith) in
       let free : Bare p (s .regs .setting) (pageStart (addressOf p (programBytes a bs))) page =
-      rw back (bare-page p (law .sound) (s .regs .setting) a (length bs) some (q .bare)) in
+      rw back (bare-page p (law .sound) (s .regs .setting) a (length bs) not-empty (q .bare)) in
       let array : programmed (s .array) (addressOf p (programBytes a bs)) bs ≡ laid (s .array) a bs =
       rw back (program-is-lay (s .array) a bs room (omega arith)) in
-      three-play p law s (f .calm) Program (programBytes a bs) (program-says a bs some) free es
+      three-play p law s (f .calm) Program (programBytes a bs) (program-says a bs not-empty) free es
       ∙ (λ i. play p es (state (settled-plain (s .regs) (f .calm) i) (array i) (counted-raised (s .meter) Program i)))
 
   pub pages-play : (n : ℕ) (s : State) → Fit p s → (a : ℕ) (bs : List ℕ) → Layable p s a (length bs) → pagesTouched a (length bs) ≡ suc n → (es : List Rec)
       → play p (pageRecs (suc n) a bs ++ es) s ≡ play p es (afterLay s a bs (suc n))
   pages-play zero s f a bs q e es =
-      let some = q .some in
+      let not-empty = q .not-empty in
       rw (pages-one a bs (omega arith) es) (page-play s f a bs q (omega arith) es)
   pages-play (suc n) s f a bs q e es =
-      let some = q .some in
+      let not-empty = q .not-empty in
       let ends = q .ends in
       let long = f .long in
-      let k : ℕ = roomAt a in
+      let k : ℕ = leftInPage a in
       let c : k ≤ length bs = omega arith in
       let t : length (take k bs) ≡ k = length-take-le k bs c in
       let d : length (drop k bs) ≡ length bs - k = length-drop k bs in
       let s2 : State = afterLay s a (take k bs) 1 in
       let f2 : Fit p s2 = record { calm = calm-wel (s .regs) (f .calm) false; long = laid-length (s .array) a (take k bs) (omega arith) ∙ long } in
       let part : (b m : ℕ) → a ≤ b → b + m ≤ a + length bs → Bare p (s .regs .setting) b m = λ b m h g. bare-part p (s .regs .setting) a (length bs) b m h g (q .bare) in
-      let q1 : Layable p s a (length (take k bs)) = record { some = omega arith; ends = omega arith; bare = part a _ (omega arith) (omega arith) } in
-      let q2 : Layable p s2 (a + k) (length (drop k bs)) = record { some = omega arith; ends = omega arith; bare = part (a + k) _ (omega arith) (omega arith) } in
+      let q1 : Layable p s a (length (take k bs)) = record { not-empty = omega arith; ends = omega arith; bare = part a _ (omega arith) (omega arith) } in
+      let q2 : Layable p s2 (a + k) (length (drop k bs)) = record { not-empty = omega arith; ends = omega arith; bare = part (a + k) _ (omega arith) (omega arith) } in
       let e2 : pagesTouched (a + k) (length (drop k bs)) ≡ suc n = omega arith in
       let sum : 1 + suc n ≡ suc (suc n) = omega arith in
       ap (λ (w : List Rec). play p w s) (pages-more (suc n) a bs es)

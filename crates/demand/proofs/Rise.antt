@@ -12,13 +12,13 @@ use Rattle.demand.specs.Raised.{raised}
 
 -- the bill of one write: three records
 abbrev pub writeBill : Write → Bill
-writeBill Program = record { programs = 1; erases = 0; writes = 0; length = tapeLength 1 }
-writeBill (Erase u) = record { programs = 0; erases = 1; writes = 0; length = tapeLength 1 }
-writeBill WriteStatus = record { programs = 0; erases = 0; writes = 1; length = tapeLength 1 }
+writeBill Program = record { programs = 1; erases = 0; «register_writes» = 0; length = tapeLength 1 }
+writeBill (Erase u) = record { programs = 0; erases = 1; «register_writes» = 0; length = tapeLength 1 }
+writeBill WriteStatus = record { programs = 0; erases = 0; «register_writes» = 1; length = tapeLength 1 }
 
 same-meter : (p q e f w v i : ℕ) → p ≡ q → e ≡ f → w ≡ v
-    → _≡_ {A = Meter} (record { programs = p; erases = e; writes = w; ignored = i }) (record { programs = q; erases = f; writes = v; ignored = i })
-same-meter p q e f w v i h k l = λ t. record { programs = h t; erases = k t; writes = l t; ignored = i }
+    → _≡_ {A = Meter} (record { programs = p; erases = e; «register_writes» = w; ignored = i }) (record { programs = q; erases = f; «register_writes» = v; ignored = i })
+same-meter p q e f w v i h k l = λ t. record { programs = h t; erases = k t; «register_writes» = l t; ignored = i }
 
 -- an accepted write adds one to its own count
 pub counted-raised : (m : Meter) (w : Write) → counted m w ≡ raised m (writeBill w)

@@ -9,12 +9,12 @@ use lib.Seq.{length-take-le}
 use Rattle.lists.proofs.Patched.{patched-length}
 use Rattle.rules.specs.declared.EraseUnit.{EraseUnit}
 use Rattle.rules.specs.declared.EraseUnit.the-variants.{Sector, Block32, Block64, Chip}
-use Rattle.rules.specs.declared.Write.the-variants as W
+use Rattle.rules.specs.declared.Write.the-variants.{Erase, WriteStatus}
 use Rattle.rules.specs.declared.Kind.the-variants.{Writes}
 use Rattle.rules.specs.declared.Regs.{Regs}
 use Rattle.rules.specs.declared.Span.{Span}
 use Rattle.rules.specs.declared.Step.{Step}
-use Rattle.rules.specs.declared.Step.the-variants.{Erase, Lay, Guard}
+use Rattle.rules.specs.declared.Step.the-variants.{EraseAt, Lay, Guard}
 use Rattle.rules.specs.Kinds.{codeOf}
 use Rattle.rules.specs.Units.{page, unitStart, unitLength}
 use Rattle.rules.specs.Part.{Part}
@@ -62,63 +62,63 @@ erased-length size l u a h = patched-length l (unitStart u a) (unitLength size u
 
 -- the setting that the next step's check goes by
 pub step-setting : (r : Regs) (w : Step) → regsMeant r w .setting ≡ settingMeant (r .setting) w
-step-setting r (Erase u a) = refl
+step-setting r (EraseAt u a) = refl
 step-setting r (Lay w) = refl
 step-setting r (Guard g) = refl
 
 module _ (p : Part) (law : Tapeable p) where
-  erase-says : (u : EraseUnit) (a : ℕ) → Says p (Writes (W.Erase u)) (eraseBytes u a)
-  erase-says u a = record { some = some u; code = code u; shape = law .erase-shaped u a }
+  erase-says : (u : EraseUnit) (a : ℕ) → Says p (Writes (Erase u)) (eraseBytes u a)
+  erase-says u a = record { not-empty = not-empty u; code = code u; shape = law .erase-shaped u a }
     where
-      some : (u : EraseUnit) → 0 < length (eraseBytes u a)
-      some Sector = omega arith
-      some Block32 = omega arith
-      some Block64 = omega arith
-      some Chip = omega arith
+      not-empty : (u : EraseUnit) → 0 < length (eraseBytes u a)
+      not-empty Sector = omega arith
+      not-empty Block32 = omega arith
+      not-empty Block64 = omega arith
+      not-empty Chip = omega arith
 
-      code : (u : EraseUnit) → getD (eraseBytes u a) 0 0 ≡ codeOf (Writes (W.Erase u))
+      code : (u : EraseUnit) → getD (eraseBytes u a) 0 0 ≡ codeOf (Writes (Erase u))
       code Sector = refl
       code Block32 = refl
       code Block64 = refl
       code Chip = refl
 
-  guard-says : (g : ℕ) → g ≤ settingLimit → Says p (Writes W.WriteStatus) (codeOf (Writes W.WriteStatus) ∷ p .guardBytes g)
-  guard-says g k = record { some = omega arith; code = refl; shape = law .guard-shaped g k }
+  guard-says : (g : ℕ) → g ≤ settingLimit → Says p (Writes WriteStatus) (codeOf (Writes WriteStatus) ∷ p .guardBytes g)
+  guard-says g k = record { not-empty = omega arith; code = refl; shape = law .guard-shaped g k }
 
   module _ (payload : List ℕ) (s : State) (fit : Fit p s) where
     -- the records of a step do what it means, and the records es come after them
     pub step-play : (w : Step) → StepOk p (s .regs .setting) (length payload) w → (es : List Rec)
         → play p (stepRecs p payload w ++ es) s ≡ play p es (afterStep p payload w s)
-    step-play (Erase u a) k es =
+    step-play (EraseAt u a) k es =
         let b : List ℕ = eraseBytes u a in
         let back : unitStart u (addressOf p b) ≡ unitStart u a = unit-back p (law .sound) u a (erase-inside p u a (k .inside)) in
         let free : Bare p (s .regs .setting) (unitStart u (addressOf p b)) (unitLength (p .size) u) =
-        rw back (step-bare p (s .regs .setting) (Erase u a) (k .bare)) in
-        three-play p law s (fit .calm) (W.Erase u) b (erase-says u a) free es
-        ∙ (λ i. play p es (state (settled-plain (s .regs) (fit .calm) i) (erased-same (p .size) (s .array) u _ _ back i) (counted-raised (s .meter) (W.Erase u) i)))
+        rw back (step-bare p (s .regs .setting) (EraseAt u a) (k .bare)) in
+        three-play p law s (fit .calm) (Erase u) b (erase-says u a) free es
+        ∙ (λ i. play p es (state (settled-plain (s .regs) (fit .calm) i) (erased-same (p .size) (s .array) u _ _ back i) (counted-raised (s .meter) (Erase u) i)))
     step-play (Lay w) k es =
         let bs : List ℕ = layBytes payload w in
         let n : ℕ = (w .address + w .length - 1) / page - w .address / page in
         let long : length bs ≡ w .length = lay-length payload w (k .covered) in
         let i = lay-inside p w (k .inside) in
-        let some = i .some in
+        let not-empty = i .not-empty in
         let ends = i .ends in
         let free : Bare p (s .regs .setting) (w .address) (length bs) = rw long (step-bare p (s .regs .setting) (Lay w) (k .bare)) in
-        let q : Layable p s (w .address) (length bs) = record { some = omega arith; ends = omega arith; bare = free } in
+        let q : Layable p s (w .address) (length bs) = record { not-empty = omega arith; ends = omega arith; bare = free } in
         let e : pagesTouched (w .address) (w .length) ≡ suc n = omega arith in
         rw e (pages-play p law n s fit (w .address) bs q (omega arith) es)
     step-play (Guard g) k es =
-        let b : List ℕ = codeOf (Writes W.WriteStatus) ∷ p .guardBytes g in
+        let b : List ℕ = codeOf (Writes WriteStatus) ∷ p .guardBytes g in
         let r : Regs = s .regs in
         let free : Bare p (r .setting) 0 0 = bare-none p (r .setting) 0 0 (λ x q t. absurd (omega arith)) in
         let regs : withWel (withBusy (p .statusWritten (withWel r true) b) false) false ≡ withWel (guarded r g) false =
         rw (law .guard-written (withWel r true) g (k .known)) (settled-plain (guarded r g) (calm-guarded r (fit .calm) g)) in
-        three-play p law s (fit .calm) W.WriteStatus b (guard-says g (k .known)) free es
-        ∙ (λ i. play p es (state (regs i) (s .array) (counted-raised (s .meter) W.WriteStatus i)))
+        three-play p law s (fit .calm) WriteStatus b (guard-says g (k .known)) free es
+        ∙ (λ i. play p es (state (regs i) (s .array) (counted-raised (s .meter) WriteStatus i)))
 
     -- .. and leave the chip fit for the next
     pub step-fit : (w : Step) → StepOk p (s .regs .setting) (length payload) w → Fit p (afterStep p payload w s)
-    step-fit (Erase u a) k =
+    step-fit (EraseAt u a) k =
         let e = unit-end p (law .sound) u a (erase-inside p u a (k .inside)) in
         let long = fit .long in
         record { calm = calm-wel (s .regs) (fit .calm) false; long = erased-length (p .size) (s .array) u a (omega arith) ∙ long }

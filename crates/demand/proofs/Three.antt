@@ -17,20 +17,20 @@ use Rattle.rules.specs.Kinds.{codeOf, ofWrite, ofKnown}
 use Rattle.rules.specs.Part.{Part, shaped}
 use Rattle.rules.specs.Status.{withWel, withBusy}
 use Rattle.rules.specs.Writes.{reachStart, reachLength, locked, lockedOut, regsWritten, arrayWritten}
-use Rattle.rules.specs.Verdict.{addressOf, asleep, held, writeVerdict, kindVerdict, judgeOf, verdictOf}
+use Rattle.rules.specs.Verdict.{addressOf, unheardAsleep, unheardBusy, writeVerdict, kindVerdict, judgeOf, verdictOf}
 use Rattle.rules.specs.Transaction.{turnOf}
 use Rattle.rules.specs.Counts.{counted}
 use Rattle.rules.specs.Events.{finished}
 use Rattle.rules.specs.Tape.{Rec}
 use Rattle.rules.specs.Play.{State, state, playRec, play}
-use Rattle.rules.specs.Records.{three}
+use Rattle.rules.specs.Records.{threeRecs}
 use Rattle.demand.proofs.Bare.{Bare}
 use Rattle.demand.proofs.Tapeable.{Tapeable}
 use Rattle.demand.proofs.Fit.{Calm, calm-wel}
 
 -- the bytes b say a kind to the chip, in the right number and with no leftover bits
 pub record Says (p : Part) (k : Kind) (b : List ℕ) : Type 0 where
-  pub some : 0 < length b
+  pub not-empty : 0 < length b
   pub code : getD b 0 0 ≡ codeOf k
   pub shape : shaped p (codeOf k) (length b) 0 ≡ true
 
@@ -62,14 +62,14 @@ finish-settles p r b WriteStatus = refl
 module _ (p : Part) (law : Tapeable p) where
   -- a chip that is awake and idle hears what is said
   heard : (r : Regs) → Calm r → (k : Kind) (b : List ℕ) → Says p k b → verdictOf p r b 0 true ≡ ofWrite k (CarriedOut k) (writeVerdict p r true (addressOf p b) k)
-  unfolding verdictOf judgeOf asleep held ofKnown kindVerdict if_then_else_
+  unfolding verdictOf judgeOf unheardAsleep unheardBusy ofKnown kindVerdict if_then_else_
   heard r c k b s =
-      let some = s .some in
+      let not-empty = s .not-empty in
       rw (ne-eqb (length b) 0 (λ e. omega arith), s .code, law .sound .codes k, c .awake, c .idle, s .shape)
 
   enable-done : (r : Regs) → Calm r → verdictOf p r (codeOf WriteEnable ∷ []) 0 true ≡ CarriedOut WriteEnable
   unfolding ofWrite
-  enable-done r c = heard r c WriteEnable _ (record { some = omega arith; code = refl; shape = law .enable-shaped })
+  enable-done r c = heard r c WriteEnable _ (record { not-empty = omega arith; code = refl; shape = law .enable-shaped })
 
   -- with WEL 1, unlocked and nothing protected: "else 0, carried out"
   write-done : (r : Regs) → Calm r → (w : Write) (b : List ℕ) → Says p (Writes w) b → Bare p (r .setting) (reachStart w (addressOf p b)) (reachLength p w)
@@ -80,6 +80,6 @@ module _ (p : Part) (law : Tapeable p) where
   -- the write does its own to the registers, the array and the meter, and the records es come after it
   pub three-play : (s : State) → Calm (s .regs) → (w : Write) (b : List ℕ) → Says p (Writes w) b
       → Bare p (s .regs .setting) (reachStart w (addressOf p b)) (reachLength p w) → (es : List Rec)
-      → play p (three b ++ es) s ≡ play p es (state (settled p (s .regs) b w) (arrayWritten p (s .array) b (addressOf p b) w) (counted (s .meter) w))
+      → play p (threeRecs b ++ es) s ≡ play p es (state (settled p (s .regs) b w) (arrayWritten p (s .array) b (addressOf p b) w) (counted (s .meter) w))
   unfolding play playRec turnOf ofWrite
   three-play s c w b y bare es = rw (enable-done (s .regs) c, write-done (s .regs) c w b y bare, finish-settles p (s .regs) b w)

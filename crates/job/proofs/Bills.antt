@@ -6,7 +6,7 @@ use native.Mathlib.Nat.{zero-add, add-zero, add-assoc, sub-zero}
 use native.Mathlib.Numerals.{add-one}
 use native.Mathlib.Omega.{arith}
 use Rattle.rules.specs.declared.Step.{Step}
-use Rattle.rules.specs.declared.Step.the-variants.{Erase, Lay, Guard}
+use Rattle.rules.specs.declared.Step.the-variants.{EraseAt, Lay, Guard}
 use Rattle.rules.specs.declared.Decoded.{Decoded}
 use Rattle.rules.specs.declared.Decoded.the-variants.{Good, Bad}
 use Rattle.rules.specs.declared.Bill.{Bill}
@@ -20,7 +20,7 @@ pub none-upto : (n : ℕ) → Upto noBill n
 none-upto n = omega arith
 
 pub step-upto : (w : Step) → Billable w → Upto (stepBill w) 1
-step-upto (Erase u a) h = omega arith
+step-upto (EraseAt u a) h = omega arith
 step-upto (Lay s) h =
     let k = h .lays s refl in
     omega arith
@@ -37,19 +37,19 @@ plus-assoc a b c =
     record {
       programs = add-assoc (a .programs) (b .programs) (c .programs) i;
       erases = add-assoc (a .erases) (b .erases) (c .erases) i;
-      writes = add-assoc (a .writes) (b .writes) (c .writes) i;
+      «register_writes» = add-assoc (a .«register_writes») (b .«register_writes») (c .«register_writes») i;
       length = add-assoc (a .length) (b .length) (c .length) i;
     }
 
 none-plus : (b : Bill) → noBill plus b ≡ b
 none-plus b =
     λ i.
-    record { programs = zero-add (b .programs) i; erases = zero-add (b .erases) i; writes = zero-add (b .writes) i; length = zero-add (b .length) i }
+    record { programs = zero-add (b .programs) i; erases = zero-add (b .erases) i; «register_writes» = zero-add (b .«register_writes») i; length = zero-add (b .length) i }
 
 plus-none : (b : Bill) → b plus noBill ≡ b
 plus-none b =
     λ i.
-    record { programs = add-zero (b .programs) i; erases = add-zero (b .erases) i; writes = add-zero (b .writes) i; length = add-zero (b .length) i }
+    record { programs = add-zero (b .programs) i; erases = add-zero (b .erases) i; «register_writes» = add-zero (b .«register_writes») i; length = add-zero (b .length) i }
 
 with-bill : (d : Decoded) (ss : List Step) → billOf (withStep d ss) ≡ decodedBill d plus billOf ss
 unfolding billOf

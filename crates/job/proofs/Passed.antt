@@ -68,7 +68,7 @@ billable part s pl d w h e =
       lays = λ x q.
           let g : h .step ≡ Lay x = cc (h .good) in
           let i = lay-inside p x (rw g at (h .ok .inside)) in
-          record { some = i .some; few = i .few; near = omega (arith, i .ends) };
+          record { not-empty = i .not-empty; few = i .few; near = omega (arith, i .ends) };
     }
 
 pub accepted-counted : (part s : ℕ) (job : List ℕ) (pl : ℕ) → jobRefusal part s job pl .number ≡ 0 → Counted job

@@ -21,7 +21,7 @@ abbrev pub pageLimit : ℕ
 pageLimit = 17
 
 pub record Short (s : Span) : Type 0 where
-  pub some : 0 < s .length
+  pub not-empty : 0 < s .length
   pub few : s .length ≤ layLimit
   pub near : s .address + s .length ≤ addressEnd
 
@@ -37,7 +37,7 @@ pub record Counted (job : List ℕ) : Type 0 where
 pub record Upto (b : Bill) (n : ℕ) : Type 0 where
   pub programs-few : b .programs ≤ pageLimit * n
   pub erases-few : b .erases ≤ n
-  pub writes-few : b .writes ≤ n
+  pub register-writes-few : b .«register_writes» ≤ n
   pub length-few : b .length ≤ tapeLength pageLimit * n
 
 -- bytes that say no step cost nothing

@@ -31,7 +31,7 @@ fn lay_bill(s: Span) -> Bill
     Bill {
         programs: pages as u32,
         erases: 0,
-        writes: 0,
+        register_writes: 0,
         length: THREE * pages,
     }
 }
@@ -42,17 +42,17 @@ pub fn step_bill(w: Step) -> Bill
     ensures { λ b. ⌜ b ≡ stepBill w ⌝ }
 {
     match w {
-        Step::Erase(_, _) => Bill {
+        Step::EraseAt(_, _) => Bill {
             programs: 0,
             erases: 1,
-            writes: 0,
+            register_writes: 0,
             length: THREE,
         },
         Step::Lay(s) => lay_bill(s),
         Step::Guard(_) => Bill {
             programs: 0,
             erases: 0,
-            writes: 1,
+            register_writes: 1,
             length: THREE,
         },
     }
@@ -64,7 +64,7 @@ fn no_bill() -> Bill
     Bill {
         programs: 0,
         erases: 0,
-        writes: 0,
+        register_writes: 0,
         length: 0,
     }
 }
@@ -87,7 +87,7 @@ fn add(a: Bill, b: Bill) -> Bill
     Bill {
         programs: a.programs + b.programs,
         erases: a.erases + b.erases,
-        writes: a.writes + b.writes,
+        register_writes: a.register_writes + b.register_writes,
         length: a.length + b.length,
     }
 }

@@ -7,7 +7,7 @@ use rules::Step;
 ghost use mathlib.Core.Path.{_≡_};
 ghost use Prim.Native.Nat.{_+_, _≤_, _<_};
 ghost use Rattle.job.specs.Width.{placeEnd};
-ghost use Rattle.rules.specs.Job.{number4, zeros, unitBy, eraseAt, layAt, guardAt, stepAt};
+ghost use Rattle.rules.specs.Job.{number4, zeros, unitBy, decodedErase, decodedLay, decodedGuard, stepAt};
 
 // Four bytes, big-endian.
 fn read4(job: &[u8], a: usize) -> usize
@@ -49,7 +49,7 @@ fn unit_by(n: u8) -> EraseUnit
 
 fn erase_at(job: &[u8], a: usize) -> Decoded
     requires { ⌜ a + 16 ≤ placeEnd ⌝ }
-    ensures { λ d. ⌜ d ≡ eraseAt (now (job .entry)) a ⌝ }
+    ensures { λ d. ⌜ d ≡ decodedErase (now (job .entry)) a ⌝ }
 {
     let unit = lists::byte_at(job, a + 1);
     if 3 < unit {
@@ -58,12 +58,12 @@ fn erase_at(job: &[u8], a: usize) -> Decoded
     if !are_zeros(job, a + 8, 8) {
         return Decoded::Bad;
     }
-    Decoded::Good(Step::Erase(unit_by(unit), read4(job, a + 4)))
+    Decoded::Good(Step::EraseAt(unit_by(unit), read4(job, a + 4)))
 }
 
 fn lay_at(job: &[u8], a: usize) -> Decoded
     requires { ⌜ a + 16 ≤ placeEnd ⌝ }
-    ensures { λ d. ⌜ d ≡ layAt (now (job .entry)) a ⌝ }
+    ensures { λ d. ⌜ d ≡ decodedLay (now (job .entry)) a ⌝ }
 {
     if lists::byte_at(job, a + 1) != 0 {
         return Decoded::Bad;
@@ -77,7 +77,7 @@ fn lay_at(job: &[u8], a: usize) -> Decoded
 
 fn guard_at(job: &[u8], a: usize) -> Decoded
     requires { ⌜ a + 16 ≤ placeEnd ⌝ }
-    ensures { λ d. ⌜ d ≡ guardAt (now (job .entry)) a ⌝ }
+    ensures { λ d. ⌜ d ≡ decodedGuard (now (job .entry)) a ⌝ }
 {
     let setting = lists::byte_at(job, a + 1);
     if 31 < setting {

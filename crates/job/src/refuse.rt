@@ -32,7 +32,7 @@ fn chip_not_at_zero(u: EraseUnit, a: usize) -> bool
 }
 
 fn erase_outside(part: u32, u: EraseUnit, a: usize) -> bool
-    ensures { λ t. ⌜ t ≡ outside (partOf part) (Step.Erase u a) ⌝ }
+    ensures { λ t. ⌜ t ≡ outside (partOf part) (Step.EraseAt u a) ⌝ }
 {
     if parts::size_of(part) <= a {
         return true;
@@ -60,7 +60,7 @@ fn is_outside(part: u32, w: Step) -> bool
     ensures { λ t. ⌜ t ≡ outside (partOf part) w ⌝ }
 {
     match w {
-        Step::Erase(u, a) => erase_outside(part, u, a),
+        Step::EraseAt(u, a) => erase_outside(part, u, a),
         Step::Lay(s) => lay_outside(part, s),
         Step::Guard(_) => false,
     }
@@ -82,7 +82,7 @@ fn is_beyond(payload_length: usize, w: Step) -> bool
     ensures { λ t. ⌜ t ≡ beyond «payload_length» w ⌝ }
 {
     match w {
-        Step::Erase(_, _) => false,
+        Step::EraseAt(_, _) => false,
         Step::Lay(s) => lay_beyond(payload_length, s),
         Step::Guard(_) => false,
     }
@@ -94,7 +94,7 @@ fn step_start(w: Step) -> usize
     ensures { λ r. ⌜ r ≡ stepStart w ⌝ }
 {
     match w {
-        Step::Erase(u, a) => judge::unit_start(u, a),
+        Step::EraseAt(u, a) => judge::unit_start(u, a),
         Step::Lay(s) => s.address,
         Step::Guard(_) => 0,
     }
@@ -104,7 +104,7 @@ fn step_reach(part: u32, w: Step) -> usize
     ensures { λ r. ⌜ r ≡ stepReach (partOf part) w ⌝ }
 {
     match w {
-        Step::Erase(u, _) => judge::unit_length(part, u),
+        Step::EraseAt(u, _) => judge::unit_length(part, u),
         Step::Lay(s) => s.length,
         Step::Guard(_) => 0,
     }
@@ -152,7 +152,7 @@ fn setting_meant(s: u8, w: Step) -> u8
     ensures { λ r. ⌜ r ≡ settingMeant s w ⌝ }
 {
     match w {
-        Step::Erase(_, _) => s,
+        Step::EraseAt(_, _) => s,
         Step::Lay(_) => s,
         Step::Guard(g) => g,
     }

@@ -17,7 +17,7 @@ ghost use Rattle.rules.specs.Parts.{partOf};
 ghost use Rattle.rules.specs.Units.{unitStart, unitLength};
 ghost use Rattle.rules.specs.Protection.{firstProtected};
 ghost use Rattle.rules.specs.Writes.{reachStart, reachLength, locked, lockedOut};
-ghost use Rattle.rules.specs.Verdict.{ignored, addressOf, asleep, held, protectionVerdict, writeVerdict, kindVerdict, judgeOf, verdictOf};
+ghost use Rattle.rules.specs.Verdict.{ignored, addressOf, unheardAsleep, unheardBusy, protectionVerdict, writeVerdict, kindVerdict, judgeOf, verdictOf};
 
 // ---- where a write reaches
 
@@ -93,8 +93,8 @@ pub fn ignore(number: u8) -> Verdict
     Verdict::Ignored(Reason { number: number })
 }
 
-fn is_asleep(part: u32, r: Regs, op: u8) -> bool
-    ensures { λ t. ⌜ t ≡ asleep (partOf part) r op ⌝ }
+fn is_unheard_asleep(part: u32, r: Regs, op: u8) -> bool
+    ensures { λ t. ⌜ t ≡ unheardAsleep (partOf part) r op ⌝ }
 {
     if r.awake {
         return false;
@@ -102,8 +102,8 @@ fn is_asleep(part: u32, r: Regs, op: u8) -> bool
     !parts::heard_asleep(part, op)
 }
 
-fn is_held(part: u32, r: Regs, op: u8) -> bool
-    ensures { λ t. ⌜ t ≡ held (partOf part) r op ⌝ }
+fn is_unheard_busy(part: u32, r: Regs, op: u8) -> bool
+    ensures { λ t. ⌜ t ≡ unheardBusy (partOf part) r op ⌝ }
 {
     if r.busy {
         return !parts::heard_busy(part, op);
@@ -195,10 +195,10 @@ fn judge(part: u32, r: Regs, n: usize, x: u32, high: bool, op: u8, a: usize, c: 
     if n == 0 {
         return ignore(12);
     }
-    if is_asleep(part, r, op) {
+    if is_unheard_asleep(part, r, op) {
         return ignore(11);
     }
-    if is_held(part, r, op) {
+    if is_unheard_busy(part, r, op) {
         return ignore(10);
     }
     let Command::Known(k) = c else {

@@ -34,16 +34,16 @@ unfolding room
 room-is m n e =
     let p : Bool = m .programs + n ≤? countLimit in
     let q : Bool = m .erases + n ≤? countLimit in
-    let r : Bool = m .writes + n ≤? countLimit in
+    let r : Bool = m .«register_writes» + n ≤? countLimit in
     let s : Bool = m .ignored + n ≤? countLimit in
     let a = both-true (p && q && r) s e in
     let b = both-true (p && q) r (a .0) in
     let c = both-true p q (b .0) in
-    record { programs-fit = leb-true _ _ (c .0); erases-fit = leb-true _ _ (c .1); writes-fit = leb-true _ _ (b .1); ignored-fit = leb-true _ _ (a .1) }
+    record { programs-fit = leb-true _ _ (c .0); erases-fit = leb-true _ _ (c .1); register-writes-fit = leb-true _ _ (b .1); ignored-fit = leb-true _ _ (a .1) }
 
 pub room-had : (m : Meter) (n : ℕ) → Room m n → room m n ≡ true
 unfolding room
-room-had m n r = rw (le-leb _ _ (r .programs-fit), le-leb _ _ (r .erases-fit), le-leb _ _ (r .writes-fit), le-leb _ _ (r .ignored-fit)) refl
+room-had m n r = rw (le-leb _ _ (r .programs-fit), le-leb _ _ (r .erases-fit), le-leb _ _ (r .register-writes-fit), le-leb _ _ (r .ignored-fit)) refl
 
 -- ---- 1, 2 and 3, which an entry that is lent an array asks first
 

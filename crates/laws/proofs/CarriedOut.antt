@@ -22,7 +22,7 @@ use Rattle.rules.specs.Kinds.{ofWrite, ofKnown}
 use Rattle.rules.specs.Part.{Part, commandOf, shaped}
 use Rattle.rules.specs.Protection.{firstProtected}
 use Rattle.rules.specs.Writes.{reachStart, reachLength, lockedOut}
-use Rattle.rules.specs.Verdict.{ignored, addressOf, asleep, held, protectionVerdict, writeVerdict, kindVerdict, judgeOf, verdictOf}
+use Rattle.rules.specs.Verdict.{ignored, addressOf, unheardAsleep, unheardBusy, protectionVerdict, writeVerdict, kindVerdict, judgeOf, verdictOf}
 use Rattle.rules.specs.Transaction.{turnBy, turnOf}
 
 -- ---- a kind writes nothing, or it writes
@@ -60,12 +60,12 @@ pub record WritePassed (p : Part) (r : Regs) (high : Bool) (a : ℕ) (w : Write)
 
 -- what is asked of any command: none of 10 to 16
 pub record Passed (p : Part) (r : Regs) (b : List ℕ) (x : ℕ) (high : Bool) (k : Kind) : Type 0 where
-  pub some : 0 < length b
-  pub awake : asleep p r (getD b 0 0) ≡ false
-  pub idle : held p r (getD b 0 0) ≡ false
+  pub not-empty : 0 < length b
+  pub awake : unheardAsleep p r (getD b 0 0) ≡ false
+  pub idle : unheardBusy p r (getD b 0 0) ≡ false
   pub known : commandOf p (getD b 0 0) ≡ Known k
   pub formed : shaped p (getD b 0 0) (length b) x ≡ true
-  pub writes : (w : Write) → k ≡ Writes w → WritePassed p r high (addressOf p b) w
+  pub may-write : (w : Write) → k ≡ Writes w → WritePassed p r high (addressOf p b) w
 
 -- ---- from the verdict to the tests
 
@@ -106,19 +106,19 @@ unfolding verdictOf judgeOf kindVerdict
 carried-passed p r b x high k e =
     let op = getD b 0 0 in
     let e1 = other (length b =? 0) 12 _ k e in
-    let e2 = other (asleep p r op) 11 _ k (e1 .1) in
-    let e3 = other (held p r op) 10 _ k (e2 .1) in
+    let e2 = other (unheardAsleep p r op) 11 _ k (e1 .1) in
+    let e3 = other (unheardBusy p r op) 10 _ k (e2 .1) in
     let e4 = is-known (commandOf p op) _ k (e3 .1) in
     let e5 = other (not (shaped p op (length b) x)) 13 _ k (e4 .2) in
     let e6 = kind-passed p r high (addressOf p b) k (e4 .0) (e5 .1) in
     let n = eqb-false (length b) 0 (e1 .0) in
     record {
-      some = omega arith;
+      not-empty = omega arith;
       awake = e2 .0;
       idle = e3 .0;
       known = e4 .1 ∙ ap Known (e6 .0);
       formed = not-false _ (e5 .0);
-      writes = λ w q. e6 .1 w (e6 .0 ∙ q);
+      may-write = λ w q. e6 .1 w (e6 .0 ∙ q);
     }
 
 -- ---- from the tests to the verdict
@@ -135,8 +135,8 @@ module _ (p : Part) (r : Regs) (high : Bool) (a : ℕ) where
 pub passed-carried : (p : Part) (r : Regs) (b : List ℕ) (x : ℕ) (high : Bool) (k : Kind) → Passed p r b x high k → verdictOf p r b x high ≡ CarriedOut k
 unfolding verdictOf judgeOf kindVerdict ofKnown if_then_else_
 passed-carried p r b x high k h =
-    let n = h .some in
-    rw (ne-eqb (length b) 0 (λ e. omega arith), h .awake, h .idle, h .known, h .formed) (passed-kind p r high (addressOf p b) k (h .writes))
+    let n = h .not-empty in
+    rw (ne-eqb (length b) 0 (λ e. omega arith), h .awake, h .idle, h .known, h .formed) (passed-kind p r high (addressOf p b) k (h .may-write))
 
 -- ---- the turn that a verdict makes
 

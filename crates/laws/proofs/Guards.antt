@@ -11,7 +11,7 @@ use Rattle.lists.proofs.Choice.{both-true}
 use Rattle.rules.specs.declared.Step.the-variants.{Guard}
 use Rattle.rules.specs.declared.Decoded.{Decoded}
 use Rattle.rules.specs.declared.Decoded.the-variants.{Good, Bad}
-use Rattle.rules.specs.Job.{settingLimit, zeros, eraseAt, layAt, guardAt, decodedAt, stepAt}
+use Rattle.rules.specs.Job.{settingLimit, zeros, decodedErase, decodedLay, decodedGuard, decodedAt, stepAt}
 use Rattle.rules.specs.JobRefusals.{settingAfter}
 
 -- a record, so that what was decoded is found at a use
@@ -26,13 +26,13 @@ unfolding if_then_else_
 if-bounded true h k = h refl
 if-bounded false h k = k
 
-guard-bounded : (job : List ℕ) (a : ℕ) → Bounded (guardAt job a)
-unfolding guardAt
+guard-bounded : (job : List ℕ) (a : ℕ) → Bounded (decodedGuard job a)
+unfolding decodedGuard
 guard-bounded job a =
     if-bounded _ (λ e. record { after = λ s h. leb-true _ _ (both-true (getD job (a + 1) 0 ≤? settingLimit) (zeros job (a + 4) 12) e .0) }) bad
 
 bounded : (job : List ℕ) (a : ℕ) → Bounded (decodedAt job a)
-unfolding decodedAt eraseAt layAt
+unfolding decodedAt decodedErase decodedLay
 bounded job a =
     if-bounded _ (λ e. bad)
     (if-bounded _ (λ e. if-bounded _ (λ f. record { after = λ s h. h }) bad)

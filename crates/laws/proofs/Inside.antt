@@ -9,14 +9,14 @@ use Rattle.lists.proofs.Choice.{either-false}
 use Rattle.rules.specs.declared.EraseUnit.{EraseUnit}
 use Rattle.rules.specs.declared.Span.{Span}
 use Rattle.rules.specs.declared.Step.{Step}
-use Rattle.rules.specs.declared.Step.the-variants.{Erase, Lay, Guard}
+use Rattle.rules.specs.declared.Step.the-variants.{EraseAt, Lay, Guard}
 use Rattle.rules.specs.Part.{Part}
 use Rattle.rules.specs.JobRefusals.{layLimit, chipNotAtZero, outside, stepStart, stepReach}
 use Rattle.laws.proofs.Sound.{Sound, unit-end}
 
 pub record Inside (p : Part) (s : Span) : Type 0 where
   pub starts : s .address < p .size
-  pub some : 0 < s .length
+  pub not-empty : 0 < s .length
   pub few : s .length ≤ layLimit
   pub ends : s .address + s .length ≤ p .size
 
@@ -30,12 +30,12 @@ module _ (p : Part) where
       let b = either-false (t1 || t2) t3 (a .0) in
       let c = either-false t1 t2 (b .0) in
       let z = eqb-false (s .length) 0 (c .1) in
-      record { starts = leb-false _ _ (c .0); some = omega arith; few = ltb-false _ _ (b .1); ends = ltb-false _ _ (a .1) }
+      record { starts = leb-false _ _ (c .0); not-empty = omega arith; few = ltb-false _ _ (b .1); ends = ltb-false _ _ (a .1) }
 
-  pub erase-inside : (u : EraseUnit) (a : ℕ) → outside p (Erase u a) ≡ false → a < p .size
+  pub erase-inside : (u : EraseUnit) (a : ℕ) → outside p (EraseAt u a) ≡ false → a < p .size
   erase-inside u a e = leb-false _ _ (either-false (p .size ≤? a) (chipNotAtZero u a) e .0)
 
   pub step-end : Sound p → (w : Step) → outside p w ≡ false → stepStart w + stepReach p w ≤ p .size
-  step-end h (Erase u a) e = unit-end p h u a (erase-inside u a e)
+  step-end h (EraseAt u a) e = unit-end p h u a (erase-inside u a e)
   step-end h (Lay s) e = lay-inside s e .ends
   step-end h (Guard g) e = omega arith

@@ -19,7 +19,7 @@ use Rattle.rules.specs.Parts.{isPart, partOf}
 use Rattle.rules.specs.Protection.{firstProtected}
 use Rattle.rules.specs.Refusals.{refusalAt}
 use Rattle.rules.specs.Job.{settingLimit, stepAt, stepCount, settingMeant}
-use Rattle.rules.specs.JobRefusals.{unfit, outside, beyond, some, shielded, stepStart, stepReach, stepNumber, decodedNumber, settingAfter, stepsRefusal, jobRefusal}
+use Rattle.rules.specs.JobRefusals.{unfit, outside, beyond, wasFound, shielded, stepStart, stepReach, stepNumber, decodedNumber, settingAfter, stepsRefusal, jobRefusal}
 use Rattle.laws.proofs.Accepted.{passed, neither}
 use Rattle.laws.proofs.Guards.{setting-small}
 
@@ -43,7 +43,7 @@ pub record StepPassed (p : Part) (s n : ℕ) (d : Decoded) : Type 0 where
 pub lay-covered : (n : ℕ) (s : Span) → beyond n (Lay s) ≡ false → s .offset + s .length ≤ n
 lay-covered n s e = ltb-false n (s .offset + s .length) e
 
-none-found : (f : Found) → some f ≡ false → f ≡ Nothing
+none-found : (f : Found) → wasFound f ≡ false → f ≡ Nothing
 none-found (At x) e = let z : _≡_ {A = ℕ} 0 1 = cc in absurd (omega arith)
 none-found Nothing e = refl
 

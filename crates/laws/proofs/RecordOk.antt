@@ -11,9 +11,9 @@ pub data RecOk : Rec → Type 0 where
   power-ok : RecOk powerCycle
 
 pub data RecsOk : List Rec → Type 0 where
-  none : RecsOk []
+  no-recs : RecsOk []
   next : {r : Rec} {rs : List Rec} → RecOk r → RecsOk rs → RecsOk (r ∷ rs)
 
 pub ok-append : {rs qs : List Rec} → RecsOk rs → RecsOk qs → RecsOk (rs ++ qs)
-ok-append none k = k
+ok-append no-recs k = k
 ok-append (next o h) k = next o (ok-append h k)

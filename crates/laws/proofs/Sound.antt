@@ -28,7 +28,7 @@ pub record Sound (p : Part) : Type 0 where
   -- the size is a whole number of the largest unit, so every page and every unit ends inside the chip
   pub blocks : ℕ
   pub size-is : p .size ≡ 65536 * blocks
-  pub some : 0 < blocks
+  pub not-empty : 0 < blocks
   -- three address bytes reach all of it
   pub few : blocks ≤ 256
   -- a protected area begins and ends with a page, and lies in the chip
@@ -59,7 +59,7 @@ module _ (p : Part) (sound : Sound p) where
   size-small = let e = sound .size-is in let f = sound .few in omega arith
 
   pub size-some : 65536 ≤ p .size
-  size-some = let e = sound .size-is in let f = sound .some in omega arith
+  size-some = let e = sound .size-is in let f = sound .not-empty in omega arith
 
 -- ---- the FM25Q16 keeps them
 
@@ -122,7 +122,7 @@ part-sound part =
     record {
       blocks = 32;
       size-is = refl;
-      some = lit≤ tt;
+      not-empty = lit≤ tt;
       few = lit≤ tt;
       lo-page = λ s. fm-lo s .whole;
       hi-page = λ s. fm-hi s .whole;

@@ -6,5 +6,5 @@ use Rattle.rules.specs.Counts.{countLimit}
 pub record Room (m : Meter) (n : ℕ) : Type 0 where
   pub programs-fit : m .programs + n ≤ countLimit
   pub erases-fit : m .erases + n ≤ countLimit
-  pub writes-fit : m .writes + n ≤ countLimit
+  pub register-writes-fit : m .«register_writes» + n ≤ countLimit
   pub ignored-fit : m .ignored + n ≤ countLimit

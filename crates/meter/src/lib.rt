@@ -23,7 +23,7 @@ fn count(m: Meter, w: Write) -> Meter
             t.erases = m.erases + 1;
         }
         Write::WriteStatus => {
-            t.writes = m.writes + 1;
+            t.register_writes = m.register_writes + 1;
         }
     }
     t
@@ -69,7 +69,7 @@ pub fn has_room(m: Meter, n: usize) -> bool
     if !fits_count(m.erases, n) {
         return false;
     }
-    if !fits_count(m.writes, n) {
+    if !fits_count(m.register_writes, n) {
         return false;
     }
     fits_count(m.ignored, n)

@@ -13,7 +13,7 @@ use Rattle.rules.specs.Status.{regsOf, statusOf, keptOf, lowByte, highBy
 use Rattle.rules.specs.Protection.{isProtected, firstProtected}
 use Rattle.rules.specs.Cells.{cell, programmed, erased}
 use Rattle.rules.specs.Writes.{locked}
-use Rattle.rules.specs.Verdict.{addressOf, asleep, held, writeVerdict, kindVerdict, judgeOf, verdictOf}
+use Rattle.rules.specs.Verdict.{addressOf, unheardAsleep, unheardBusy, writeVerdict, kindVerdict, judgeOf, verdictOf}
 use Rattle.rules.specs.Transaction.{fromPlace, turnOf}
 use Rattle.rules.specs.Counts.{room}
 use Rattle.rules.specs.Events.{finished}
@@ -43,7 +43,7 @@ each [] = refl
 each (t ∷ ts) = λ i. observed-at t i ∷ each ts i
 
 computed : map (observedAt 2097152) readings ≡ map (λ t. t .expected) readings
-unfolding observedAt readings seenOf lookAt finishing arrayAt stored blank transactBy transactServed transactRefused transactRefusal isPart partOf fm25q16 fmCommands fmHeardAsleep fmHeardBusy fmSec0 fmSec1 fmArea fmLo fmHi takes leaves commandIn shapedIn commandOf shaped regsOf statusOf keptOf lowByte highByte wellFormed isProtected firstProtected cell programmed erased locked fmFirst fmSecond fmStatusWritten addressOf asleep held writeVerdict kindVerdict judgeOf verdictOf fromPlace turnOf room finished eventRefusal eventBy finishOf ofWrite ofKnown if_then_else_ tabulateFrom tabulate patched firstIn
+unfolding observedAt readings seenOf lookAt finishing arrayAt stored blank transactBy transactServed transactRefused transactRefusal isPart partOf fm25q16 fmCommands fmHeardAsleep fmHeardBusy fmSec0 fmSec1 fmArea fmLo fmHi takes leaves commandIn shapedIn commandOf shaped regsOf statusOf keptOf lowByte highByte wellFormed isProtected firstProtected cell programmed erased locked fmFirst fmSecond fmStatusWritten addressOf unheardAsleep unheardBusy writeVerdict kindVerdict judgeOf verdictOf fromPlace turnOf room finished eventRefusal eventBy finishOf ofWrite ofKnown if_then_else_ tabulateFrom tabulate patched firstIn
 computed = refl
 
 pub bench : map observed readings ≡ map (λ t. t .expected) readings

@@ -24,7 +24,7 @@ abbrev pub asleepAt : ℕ → Kept
 asleepAt status = record { status = status; awake = 0 }
 
 abbrev pub counts : ℕ → ℕ → ℕ → ℕ → Meter
-counts p e w i = record { programs = p; erases = e; writes = w; ignored = i }
+counts p e w i = record { programs = p; erases = e; «register_writes» = w; ignored = i }
 
 -- what is seen of a transaction: served, the verdict's number and the code of what was carried out, the output, the
 -- registers and the meter, the bytes of the array that are looked at, and the status after each finish event that follows

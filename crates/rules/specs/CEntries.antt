@@ -29,7 +29,7 @@ tbBill t =
       index = t .index;
       programs = t .bill .programs;
       erases = t .bill .erases;
-      writes = t .bill .writes;
+      «register_writes» = t .bill .«register_writes»;
       length = t .bill .length;
     }
 

@@ -13,8 +13,8 @@ use Rattle.rules.specs.Counts.{ignoredCounted, meterAfter, room}
 
 -- the meter after a transaction of first byte op that answered with a number: 0 is carried out, 10 to 16 ignored, and any
 -- other number counts nothing
-unfoldable pub meterTold : Part → Meter → ℕ → ℕ → Meter
-meterTold p m number op =
+unfoldable pub meterByAnswer : Part → Meter → ℕ → ℕ → Meter
+meterByAnswer p m number op =
     if number =? 0 then ofKnown (commandOf p op) m (λ k. meterAfter m (CarriedOut k)) else
     if (10 ≤? number) && (number ≤? 16) then ignoredCounted m else
     m
@@ -27,4 +27,4 @@ unfoldable pub countOf : ℕ → Meter → ℕ → ℕ → Metered
 countOf part m number op =
     if not (isPart part) then metered 1 m else
     if not (room m 1) then metered 7 m else
-    metered 0 (meterTold (partOf part) m number op)
+    metered 0 (meterByAnswer (partOf part) m number op)

@@ -15,13 +15,13 @@ countLimit = 4294967295
 
 -- "an accepted 02 adds one to programs, an accepted erase one to erases, an accepted 01 one to register writes"
 abbrev pub counted : Meter → Write → Meter
-counted m Program = record { programs = m .programs + 1; erases = m .erases; writes = m .writes; ignored = m .ignored }
-counted m (Erase u) = record { programs = m .programs; erases = m .erases + 1; writes = m .writes; ignored = m .ignored }
-counted m WriteStatus = record { programs = m .programs; erases = m .erases; writes = m .writes + 1; ignored = m .ignored }
+counted m Program = record { programs = m .programs + 1; erases = m .erases; «register_writes» = m .«register_writes»; ignored = m .ignored }
+counted m (Erase u) = record { programs = m .programs; erases = m .erases + 1; «register_writes» = m .«register_writes»; ignored = m .ignored }
+counted m WriteStatus = record { programs = m .programs; erases = m .erases; «register_writes» = m .«register_writes» + 1; ignored = m .ignored }
 
 -- "verdicts 10 to 16 add one to ignored"; "nothing else counts"
 abbrev pub ignoredCounted : Meter → Meter
-ignoredCounted m = record { programs = m .programs; erases = m .erases; writes = m .writes; ignored = m .ignored + 1 }
+ignoredCounted m = record { programs = m .programs; erases = m .erases; «register_writes» = m .«register_writes»; ignored = m .ignored + 1 }
 
 abbrev pub meterAfter : Meter → Verdict → Meter
 meterAfter m (CarriedOut k) = ofWrite k m (counted m)
@@ -32,5 +32,5 @@ unfoldable pub room : Meter → ℕ → Bool
 room m n =
     (m .programs + n ≤? countLimit)
     && (m .erases + n ≤? countLimit)
-    && (m .writes + n ≤? countLimit)
+    && (m .«register_writes» + n ≤? countLimit)
     && (m .ignored + n ≤? countLimit)

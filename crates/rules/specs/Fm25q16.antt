@@ -9,7 +9,7 @@ use Rattle.rules.specs.declared.Write.the-variants.{Program, Erase, Writ
 use Rattle.rules.specs.declared.Kind.the-variants.{WriteEnable, WriteDisable, ReadStatusLow, ReadStatusHigh, Read, FastRead, Sleep, Wake, ReadMakerDevice, ReadJedec, Writes}
 use Rattle.rules.specs.declared.Regs.{Regs}
 use Rattle.rules.specs.Status.{bit0, bitAt, settingOf, withSetting, withSrp0, withSrp1, withQe}
-use Rattle.rules.specs.Part.{Part, Row, row, exactly, either, orMore, none, any}
+use Rattle.rules.specs.Part.{Part, Row, row, exactly, either, orMore, noBits, anyBits}
 
 abbrev pub fmSize : ℕ
 fmSize = 2097152
@@ -17,23 +17,23 @@ fmSize = 2097152
 -- 01, "What a transaction does": command, bytes n; and the sentence on leftover bits
 unfoldable pub fmCommands : List Row
 fmCommands =
-    row 0x06 WriteEnable (exactly 1) none
-    ∷ row 0x04 WriteDisable (exactly 1) none
-    ∷ row 0x05 ReadStatusLow (orMore 1) any
-    ∷ row 0x35 ReadStatusHigh (orMore 1) any
-    ∷ row 0x01 (Writes WriteStatus) (either 2 3) none
-    ∷ row 0x03 Read (orMore 4) any
-    ∷ row 0x0B FastRead (orMore 5) any
-    ∷ row 0x02 (Writes Program) (orMore 5) none
-    ∷ row 0x20 (Writes (Erase Sector)) (exactly 4) none
-    ∷ row 0x52 (Writes (Erase Block32)) (exactly 4) none
-    ∷ row 0xD8 (Writes (Erase Block64)) (exactly 4) none
-    ∷ row 0xC7 (Writes (Erase Chip)) (exactly 1) none
-    ∷ row 0x60 (Writes (Erase Chip)) (exactly 1) none
-    ∷ row 0xB9 Sleep (exactly 1) none
-    ∷ row 0xAB Wake (orMore 1) any
-    ∷ row 0x90 ReadMakerDevice (orMore 4) any
-    ∷ row 0x9F ReadJedec (orMore 1) any
+    row 0x06 WriteEnable (exactly 1) noBits
+    ∷ row 0x04 WriteDisable (exactly 1) noBits
+    ∷ row 0x05 ReadStatusLow (orMore 1) anyBits
+    ∷ row 0x35 ReadStatusHigh (orMore 1) anyBits
+    ∷ row 0x01 (Writes WriteStatus) (either 2 3) noBits
+    ∷ row 0x03 Read (orMore 4) anyBits
+    ∷ row 0x0B FastRead (orMore 5) anyBits
+    ∷ row 0x02 (Writes Program) (orMore 5) noBits
+    ∷ row 0x20 (Writes (Erase Sector)) (exactly 4) noBits
+    ∷ row 0x52 (Writes (Erase Block32)) (exactly 4) noBits
+    ∷ row 0xD8 (Writes (Erase Block64)) (exactly 4) noBits
+    ∷ row 0xC7 (Writes (Erase Chip)) (exactly 1) noBits
+    ∷ row 0x60 (Writes (Erase Chip)) (exactly 1) noBits
+    ∷ row 0xB9 Sleep (exactly 1) noBits
+    ∷ row 0xAB Wake (orMore 1) anyBits
+    ∷ row 0x90 ReadMakerDevice (orMore 4) anyBits
+    ∷ row 0x9F ReadJedec (orMore 1) anyBits
     ∷ []
 
 -- 01, Verdicts: "11 asleep and not AB"

@@ -11,7 +11,7 @@ use Rattle.rules.specs.declared.EraseUnit.the-variants.{Sector, Block32,
 use Rattle.rules.specs.declared.Regs.{Regs}
 use Rattle.rules.specs.declared.Span.{Span}
 use Rattle.rules.specs.declared.Step.{Step}
-use Rattle.rules.specs.declared.Step.the-variants.{Erase, Lay, Guard}
+use Rattle.rules.specs.declared.Step.the-variants.{EraseAt, Lay, Guard}
 use Rattle.rules.specs.declared.Decoded.{Decoded}
 use Rattle.rules.specs.declared.Decoded.the-variants.{Good, Bad}
 use Rattle.rules.specs.Part.{Part}
@@ -46,31 +46,31 @@ unitBy n =
     Chip
 
 -- "1 erase: .. bytes 4 to 7 address; the rest 0"
-unfoldable pub eraseAt : List ℕ → ℕ → Decoded
-eraseAt job a =
+unfoldable pub decodedErase : List ℕ → ℕ → Decoded
+decodedErase job a =
     if (getD job (a + 1) 0 ≤? 3) && zeros job (a + 8) 8
-    then Good (Erase (unitBy (getD job (a + 1) 0)) (number4 job (a + 4)))
+    then Good (EraseAt (unitBy (getD job (a + 1) 0)) (number4 job (a + 4)))
     else Bad
 
 -- "2 lay: byte 1 is 0; address in 4 to 7, length in 8 to 11, payload offset in 12 to 15"
-unfoldable pub layAt : List ℕ → ℕ → Decoded
-layAt job a =
+unfoldable pub decodedLay : List ℕ → ℕ → Decoded
+decodedLay job a =
     if getD job (a + 1) 0 =? 0
     then Good (Lay (record { address = number4 job (a + 4); length = number4 job (a + 8); offset = number4 job (a + 12) }))
     else Bad
 
 -- "3 guard: byte 1 is a setting 0 to 31; the rest 0"
-unfoldable pub guardAt : List ℕ → ℕ → Decoded
-guardAt job a =
+unfoldable pub decodedGuard : List ℕ → ℕ → Decoded
+decodedGuard job a =
     if (getD job (a + 1) 0 ≤? settingLimit) && zeros job (a + 4) 12 then Good (Guard (getD job (a + 1) 0)) else Bad
 
 -- "byte 0 is the kind, bytes 2 and 3 are 0"; Bad is refusal 22
 unfoldable pub decodedAt : List ℕ → ℕ → Decoded
 decodedAt job a =
     if not (zeros job (a + 2) 2) then Bad else
-    if getD job a 0 =? 1 then eraseAt job a else
-    if getD job a 0 =? 2 then layAt job a else
-    if getD job a 0 =? 3 then guardAt job a else
+    if getD job a 0 =? 1 then decodedErase job a else
+    if getD job a 0 =? 2 then decodedLay job a else
+    if getD job a 0 =? 3 then decodedGuard job a else
     Bad
 
 -- step i of a job
@@ -106,13 +106,13 @@ laid l a bs = patched l a (length bs) (λ j. bitAnd (getD l (a + j) 0) (getD bs 
 
 -- on the array: "the unit holding the address becomes FF"
 abbrev pub meant : Part → List ℕ → List ℕ → Step → List ℕ
-meant p payload l (Erase u a) = erased (p .size) l u a
+meant p payload l (EraseAt u a) = erased (p .size) l u a
 meant p payload l (Lay s) = laid l (s .address) (layBytes payload s)
 meant p payload l (Guard g) = l
 
 -- on the setting, which the next step's check goes by
 abbrev pub settingMeant : ℕ → Step → ℕ
-settingMeant s (Erase u a) = s
+settingMeant s (EraseAt u a) = s
 settingMeant s (Lay w) = s
 settingMeant s (Guard g) = g
 
@@ -122,7 +122,7 @@ guarded r g = withQe (withSrp1 (withSrp0 (withSetting r g) false) false) false
 
 -- on the registers: "after a non-empty tape WEL is 0; other bits not set by a guard are as at the start"
 abbrev pub regsMeant : Regs → Step → Regs
-regsMeant r (Erase u a) = withWel r false
+regsMeant r (EraseAt u a) = withWel r false
 regsMeant r (Lay w) = withWel r false
 regsMeant r (Guard g) = withWel (guarded r g) false
 

@@ -9,7 +9,7 @@ use Rattle.lists.specs.declared.Found.the-variants.{At, Nothing}
 use Rattle.rules.specs.declared.EraseUnit.{EraseUnit}
 use Rattle.rules.specs.declared.EraseUnit.the-variants.{Sector, Block32, Block64, Chip}
 use Rattle.rules.specs.declared.Step.{Step}
-use Rattle.rules.specs.declared.Step.the-variants.{Erase, Lay, Guard}
+use Rattle.rules.specs.declared.Step.the-variants.{EraseAt, Lay, Guard}
 use Rattle.rules.specs.declared.Decoded.{Decoded}
 use Rattle.rules.specs.declared.Decoded.the-variants.{Good, Bad}
 use Rattle.rules.specs.declared.Refusal.{Refusal}
@@ -44,35 +44,35 @@ chipNotAtZero Chip a = not (a =? 0)
 
 -- 23: "address past the chip, whole-chip erase not at 0, length 0 or over 4,096, or end past the chip"
 abbrev pub outside : Part → Step → Bool
-outside p (Erase u a) = (p .size ≤? a) || chipNotAtZero u a
+outside p (EraseAt u a) = (p .size ≤? a) || chipNotAtZero u a
 outside p (Lay s) =
     (p .size ≤? s .address) || (s .length =? 0) || (layLimit <? s .length) || (p .size <? s .address + s .length)
 outside p (Guard g) = false
 
 -- 24: "payload span outside the payload"
 abbrev pub beyond : ℕ → Step → Bool
-beyond payloadLength (Erase u a) = false
+beyond payloadLength (EraseAt u a) = false
 beyond payloadLength (Lay s) = payloadLength <? s .offset + s .length
 beyond payloadLength (Guard g) = false
 
 -- the bytes of the unit or span
 abbrev pub stepStart : Step → ℕ
-stepStart (Erase u a) = unitStart u a
+stepStart (EraseAt u a) = unitStart u a
 stepStart (Lay s) = s .address
 stepStart (Guard g) = 0
 
 abbrev pub stepReach : Part → Step → ℕ
-stepReach p (Erase u a) = unitLength (p .size) u
+stepReach p (EraseAt u a) = unitLength (p .size) u
 stepReach p (Lay s) = s .length
 stepReach p (Guard g) = 0
 
-abbrev pub some : Found → Bool
-some (At x) = true
-some Nothing = false
+abbrev pub wasFound : Found → Bool
+wasFound (At x) = true
+wasFound Nothing = false
 
 -- 25: "a byte of the unit or span protected at that step", at setting s
 unfoldable pub shielded : Part → ℕ → Step → Bool
-shielded p s w = some (firstProtected p s (stepStart w) (stepReach p w))
+shielded p s w = wasFound (firstProtected p s (stepStart w) (stepReach p w))
 
 -- 23 to 25 for one step, 0 for none
 unfoldable pub stepNumber : Part → ℕ → ℕ → Step → ℕ

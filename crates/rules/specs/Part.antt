@@ -16,8 +16,8 @@ pub data Bytes : Type 0 where
 
 -- what a command asks of the leftover bits
 pub data Leftover : Type 0 where
-  none : Leftover
-  any : Leftover
+  noBits : Leftover
+  anyBits : Leftover
 
 -- a line of the chip's table of commands
 pub record Row : Type 0 where
@@ -54,8 +54,8 @@ takes (either j k) n = (n =? j) || (n =? k)
 takes (orMore k) n = k ≤? n
 
 unfoldable pub leaves : Leftover → ℕ → Bool
-leaves none x = x =? 0
-leaves any x = true
+leaves noBits x = x =? 0
+leaves anyBits x = true
 
 unfoldable pub commandIn : List Row → ℕ → Command
 commandIn [] op = Unknown

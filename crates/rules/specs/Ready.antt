@@ -18,7 +18,7 @@ pub record Ready (p : Part) (setting : ℕ) (kept : Kept) : Type 0 where
   -- "unlocked means SRP1 is 0 (a tape holds /WP high)"
   pub unlocked : regsOf kept .srp1 ≡ false
   -- the setting that the job was translated for
-  pub set : regsOf kept .setting ≡ setting
+  pub at-setting : regsOf kept .setting ≡ setting
 
 -- "room on the meter means that refusal 7 would not be given for the tape"
 pub record Roomy (m : Meter) (tape : List ℕ) : Type 0 where

@@ -6,10 +6,9 @@ use lib.ListN.{length, take, drop}
 use Rattle.rules.specs.declared.EraseUnit.{EraseUnit}
 use Rattle.rules.specs.declared.EraseUnit.the-variants.{Sector, Block32, Block64, Chip}
 use Rattle.rules.specs.declared.Kind.the-variants.{WriteEnable, Writes}
-use Rattle.rules.specs.declared.Write.the-variants.{Program, WriteStatus}
-use Rattle.rules.specs.declared.Write as W
+use Rattle.rules.specs.declared.Write.the-variants.{Program, Erase, WriteStatus}
 use Rattle.rules.specs.declared.Step.{Step}
-use Rattle.rules.specs.declared.Step.the-variants.{Erase, Lay, Guard}
+use Rattle.rules.specs.declared.Step.the-variants.{EraseAt, Lay, Guard}
 use Rattle.rules.specs.declared.Bill.{Bill}
 use Rattle.rules.specs.Kinds.{codeOf}
 use Rattle.rules.specs.Part.{Part}
@@ -19,8 +18,8 @@ use Rattle.rules.specs.Job.{layBytes}
 
 infixl 65 _plus_
 -- "three records: 06, the command, finish, the first two with /WP high and no leftover bits"
-abbrev pub three : List ℕ → List Rec
-three b = transaction (codeOf WriteEnable ∷ []) 0 true ∷ transaction b 0 true ∷ finish ∷ []
+abbrev pub threeRecs : List ℕ → List Rec
+threeRecs b = transaction (codeOf WriteEnable ∷ []) 0 true ∷ transaction b 0 true ∷ finish ∷ []
 
 -- three bytes, high first
 abbrev pub addressBytes : ℕ → List ℕ
@@ -28,20 +27,20 @@ addressBytes a = a / 65536 % 256 ∷ a / 256 % 256 ∷ a % 256 ∷ []
 
 -- "erase addresses are sent as the job has them; a whole-chip erase is C7"
 abbrev pub eraseBytes : EraseUnit → ℕ → List ℕ
-eraseBytes Sector a = codeOf (Writes (W.the-variants.Erase Sector)) ∷ addressBytes a
-eraseBytes Block32 a = codeOf (Writes (W.the-variants.Erase Block32)) ∷ addressBytes a
-eraseBytes Block64 a = codeOf (Writes (W.the-variants.Erase Block64)) ∷ addressBytes a
-eraseBytes Chip a = codeOf (Writes (W.the-variants.Erase Chip)) ∷ []
+eraseBytes Sector a = codeOf (Writes (Erase Sector)) ∷ addressBytes a
+eraseBytes Block32 a = codeOf (Writes (Erase Block32)) ∷ addressBytes a
+eraseBytes Block64 a = codeOf (Writes (Erase Block64)) ∷ addressBytes a
+eraseBytes Chip a = codeOf (Writes (Erase Chip)) ∷ []
 
 -- how many bytes from a on lie in the page of a
-abbrev pub roomAt : ℕ → ℕ
-roomAt a = page - a % page
+abbrev pub leftInPage : ℕ → ℕ
+leftInPage a = page - a % page
 
 -- n pages of a lay, in ascending order: bs from a on
 unfoldable pub pageRecs : ℕ → ℕ → List ℕ → List Rec
 pageRecs zero a bs = []
 pageRecs (suc n) a bs =
-    three (codeOf (Writes Program) ∷ addressBytes a ++ take (roomAt a) bs) ++ pageRecs n (a + roomAt a) (drop (roomAt a) bs)
+    threeRecs (codeOf (Writes Program) ∷ addressBytes a ++ take (leftInPage a) bs) ++ pageRecs n (a + leftInPage a) (drop (leftInPage a) bs)
 
 -- "a lay at A of length L touches floor((A+L-1)/256) - floor(A/256) + 1 pages"
 abbrev pub pagesTouched : ℕ → ℕ → ℕ
@@ -49,9 +48,9 @@ pagesTouched a n = (a + n - 1) / page - a / page + 1
 
 -- the records of a step
 abbrev pub stepRecs : Part → List ℕ → Step → List Rec
-stepRecs p payload (Erase u a) = three (eraseBytes u a)
+stepRecs p payload (EraseAt u a) = threeRecs (eraseBytes u a)
 stepRecs p payload (Lay s) = pageRecs (pagesTouched (s .address) (s .length)) (s .address) (layBytes payload s)
-stepRecs p payload (Guard g) = three (codeOf (Writes WriteStatus) ∷ p .guardBytes g)
+stepRecs p payload (Guard g) = threeRecs (codeOf (Writes WriteStatus) ∷ p .guardBytes g)
 
 -- .. and of a job
 unfoldable pub jobRecs : Part → List ℕ → List Step → List Rec
@@ -66,16 +65,16 @@ tapeLength n = 3 * recordLength * n
 
 -- programs rise by the pages touched; "an erase or guard raises its own count by one"
 abbrev pub stepBill : Step → Bill
-stepBill (Erase u a) = record { programs = 0; erases = 1; writes = 0; length = tapeLength 1 }
+stepBill (EraseAt u a) = record { programs = 0; erases = 1; «register_writes» = 0; length = tapeLength 1 }
 stepBill (Lay s) =
-    record { programs = pagesTouched (s .address) (s .length); erases = 0; writes = 0; length = tapeLength (pagesTouched (s .address) (s .length)) }
-stepBill (Guard g) = record { programs = 0; erases = 0; writes = 1; length = tapeLength 1 }
+    record { programs = pagesTouched (s .address) (s .length); erases = 0; «register_writes» = 0; length = tapeLength (pagesTouched (s .address) (s .length)) }
+stepBill (Guard g) = record { programs = 0; erases = 0; «register_writes» = 1; length = tapeLength 1 }
 
 abbrev pub noBill : Bill
-noBill = record { programs = 0; erases = 0; writes = 0; length = 0 }
+noBill = record { programs = 0; erases = 0; «register_writes» = 0; length = 0 }
 
 abbrev pub _plus_ : Bill → Bill → Bill
-a plus b = record { programs = a .programs + b .programs; erases = a .erases + b .erases; writes = a .writes + b .writes; length = a .length + b .length }
+a plus b = record { programs = a .programs + b .programs; erases = a .erases + b .erases; «register_writes» = a .«register_writes» + b .«register_writes»; length = a .length + b .length }
 
 unfoldable pub billOf : List Step → Bill
 billOf [] = noBill

@@ -26,12 +26,12 @@ unfoldable pub addressOf : Part → List ℕ → ℕ
 addressOf p b = (getD b 1 0 * 65536 + getD b 2 0 * 256 + getD b 3 0) % p .size
 
 -- "asleep and not AB"
-unfoldable pub asleep : Part → Regs → ℕ → Bool
-asleep p r op = not (r .awake) && not (p .heardAsleep op)
+unfoldable pub unheardAsleep : Part → Regs → ℕ → Bool
+unheardAsleep p r op = not (r .awake) && not (p .heardAsleep op)
 
 -- "busy and neither 05 nor 35"
-unfoldable pub held : Part → Regs → ℕ → Bool
-held p r op = r .busy && not (p .heardBusy op)
+unfoldable pub unheardBusy : Part → Regs → ℕ → Bool
+unheardBusy p r op = r .busy && not (p .heardBusy op)
 
 -- "some byte of the page or unit is protected"; else carried out
 abbrev pub protectionVerdict : Kind → Found → Verdict
@@ -55,8 +55,8 @@ kindVerdict p r n x high op a k =
 unfoldable pub judgeOf : Part → Regs → ℕ → ℕ → Bool → ℕ → ℕ → Command → Verdict
 judgeOf p r n x high op a c =
     if n =? 0 then ignored 12 else
-    if asleep p r op then ignored 11 else
-    if held p r op then ignored 10 else
+    if unheardAsleep p r op then ignored 11 else
+    if unheardBusy p r op then ignored 10 else
     ofKnown c (ignored 12) (kindVerdict p r n x high op a)
 
 -- the verdict on the bytes b with x leftover bits and /WP high or low

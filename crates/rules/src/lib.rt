@@ -42,7 +42,7 @@ pub struct Kept {
 pub struct Meter {
     pub programs: u32,
     pub erases: u32,
-    pub writes: u32,
+    pub register_writes: u32,
     pub ignored: u32,
 }
 
@@ -175,7 +175,7 @@ pub struct Span {
 
 // A step of a job.
 pub enum Step {
-    Erase(EraseUnit, usize),
+    EraseAt(EraseUnit, usize),
     Lay(Span),
     Guard(u8),
 }
@@ -196,7 +196,7 @@ pub enum Translated {
 pub struct Bill {
     pub programs: u32,
     pub erases: u32,
-    pub writes: u32,
+    pub register_writes: u32,
     pub length: usize,
 }
 
@@ -236,7 +236,7 @@ pub struct TbBill {
     pub index: u64,
     pub programs: u32,
     pub erases: u32,
-    pub writes: u32,
+    pub register_writes: u32,
     pub length: u64,
 }
 

@@ -6,7 +6,7 @@ use native.Mathlib.Omega.{arith}
 use lib.ListN.{length, getD, drop, length-append, length-replicate}
 use lib.Seq.{getD-append-add, drop-append-add}
 use Rattle.rules.specs.Tape.{Rec, encodeRec, encode}
-use Rattle.laws.proofs.RecordOk.{RecOk, transaction-ok, finish-ok, power-ok, RecsOk, none, next}
+use Rattle.laws.proofs.RecordOk.{RecOk, transaction-ok, finish-ok, power-ok, RecsOk, no-recs, next}
 
 -- ---- lengths
 
@@ -18,7 +18,7 @@ rec-length power-ok = refl
 
 pub encode-length : {rs : List Rec} → RecsOk rs → length (encode rs) ≡ 264 * length rs
 unfolding encode
-encode-length none = refl
+encode-length no-recs = refl
 encode-length (next {r} {rs} o h) = length-append (encodeRec r) (encode rs) ∙ omega (arith, rec-length o, encode-length h)
 
 pub encode-append : (rs qs : List Rec) → encode (rs ++ qs) ≡ encode rs ++ encode qs

@@ -16,7 +16,7 @@ use Rattle.rules.specs.Status.{flag}
 use Rattle.rules.specs.Tape.{Rec, transaction, finish, powerCycle, sentLimit, bytesStart, leftoverOf, highOf, recAt, recsFrom, records, recsOf, whole, isZero, goodRecord, firstBad, encodeRec, encode}
 use Rattle.tape.specs.Record.{headGood}
 use Rattle.tape.proofs.Good.{good-from}
-use Rattle.laws.proofs.RecordOk.{RecOk, transaction-ok, finish-ok, power-ok, RecsOk, none, next}
+use Rattle.laws.proofs.RecordOk.{RecOk, transaction-ok, finish-ok, power-ok, RecsOk, no-recs, next}
 use Rattle.tape.proofs.Encoded.{rec-length, encode-length, at-place, from-place}
 
 -- byte 3 taken apart again
@@ -81,7 +81,7 @@ good-back pre rest k e powerCycle power-ok = good-laid pre rest k e 0 0 2 0 [] (
 
 recs-back : (rs : List Rec) → RecsOk rs → (pre : List ℕ) (k : ℕ) → length pre ≡ 264 * k → recsFrom (pre ++ encode rs) k (length rs) ≡ rs
 unfolding recsFrom encode
-recs-back [] none pre k e = refl
+recs-back [] no-recs pre k e = refl
 recs-back (r ∷ rs) (next o os) pre k e =
     let long : length (pre ++ encodeRec r) ≡ 264 * suc k = length-append pre (encodeRec r) ∙ omega (arith, rec-length o) in
     let ih = recs-back rs os (pre ++ encodeRec r) (suc k) long in
@@ -104,7 +104,7 @@ encode-recs rs o = ap (recsFrom (encode rs) 0) (encode-records rs o) ∙ round-t
 
 goods-back : (rs : List Rec) → RecsOk rs → (pre : List ℕ) (k : ℕ) → length pre ≡ 264 * k → (p : ℕ) → p < length rs → goodRecord (pre ++ encode rs) (k + p) ≡ true
 unfolding encode
-goods-back [] none pre k e p h = absurd (omega arith)
+goods-back [] no-recs pre k e p h = absurd (omega arith)
 goods-back (r ∷ rs) (next o os) pre k e zero h = rw (add-zero k) (good-back pre (encode rs) k e r o)
 goods-back (r ∷ rs) (next o os) pre k e (suc p) h =
     let long : length (pre ++ encodeRec r) ≡ 264 * suc k = length-append pre (encodeRec r) ∙ omega (arith, rec-length o) in

@@ -9,7 +9,7 @@ use borrow.Author.Tests.{leb-true, leb-false}
 use lib.ListN.{length, take, drop, length-take}
 use lib.Seq.{take-take, take-all, take-nil, drop-drop}
 use Rattle.rules.specs.Tape.{encode}
-use Rattle.rules.specs.Records.{three, addressBytes, roomAt, pageRecs}
+use Rattle.rules.specs.Records.{threeRecs, addressBytes, leftInPage, pageRecs}
 use Rattle.tape.proofs.Encoded.{encode-length, encode-append}
 use Rattle.demand.proofs.Holds.{three-ok}
 use Rattle.translate.specs.Spliced.{spliced}
@@ -53,33 +53,33 @@ left-over r m d = go (leb r m) refl
 -- page i of n, at address a, where `left` bytes of the payload are left from o on
 page-more : (n i a left o : ℕ) (payload : List ℕ) → i < n
     → encode (pageRecs (n - i) a (take left (drop o payload)))
-    ≡ encode (three (0x02 ∷ addressBytes a ++ take (min (roomAt a) left) (drop o payload)))
-    ++ encode (pageRecs (n - (i + 1)) (a + roomAt a) (take (left - min (roomAt a) left) (drop (o + min (roomAt a) left) payload)))
+    ≡ encode (threeRecs (0x02 ∷ addressBytes a ++ take (min (leftInPage a) left) (drop o payload)))
+    ++ encode (pageRecs (n - (i + 1)) (a + leftInPage a) (take (left - min (leftInPage a) left) (drop (o + min (leftInPage a) left) payload)))
 unfolding pageRecs
 page-more n i a left o payload h =
     let e : n - i ≡ suc (n - (i + 1)) = omega arith in
     let d = drop o payload in
-    let c = min (roomAt a) left in
-    let rest = drop-take (roomAt a) left d ∙ left-over (roomAt a) left d ∙ ap (take (left - c)) (drop-drop c o payload) in
+    let c = min (leftInPage a) left in
+    let rest = drop-take (leftInPage a) left d ∙ left-over (leftInPage a) left d ∙ ap (take (left - c)) (drop-drop c o payload) in
     ap (λ (k : ℕ). encode (pageRecs k a (take left d))) e
-    ∙ (λ t. encode (three (0x02 ∷ addressBytes a ++ take-min (roomAt a) left d t) ++ pageRecs (n - (i + 1)) (a + roomAt a) (rest t)))
-    ∙ encode-append (three (0x02 ∷ addressBytes a ++ take c d)) _
+    ∙ (λ t. encode (threeRecs (0x02 ∷ addressBytes a ++ take-min (leftInPage a) left d t) ++ pageRecs (n - (i + 1)) (a + leftInPage a) (rest t)))
+    ∙ encode-append (threeRecs (0x02 ∷ addressBytes a ++ take c d)) _
 
 -- one page put: what is left to do gives the same in the end
-pub lay-turn : (tape tape′ end : List ℕ) (k n i a left o count : ℕ) (payload sent : List ℕ) → i < n → 264 * (k + 3 * n) ≤ length tape → count ≡ min (roomAt a) left
-    → sent ≡ take count (drop o payload) → tape′ ≡ spliced tape (264 * (k + 3 * i)) (encode (three (0x02 ∷ addressBytes a ++ sent)))
+pub lay-turn : (tape tape′ end : List ℕ) (k n i a left o count : ℕ) (payload sent : List ℕ) → i < n → 264 * (k + 3 * n) ≤ length tape → count ≡ min (leftInPage a) left
+    → sent ≡ take count (drop o payload) → tape′ ≡ spliced tape (264 * (k + 3 * i)) (encode (threeRecs (0x02 ∷ addressBytes a ++ sent)))
     → spliced tape (264 * (k + 3 * i)) (encode (pageRecs (n - i) a (take left (drop o payload)))) ≡ end
-    → spliced tape′ (264 * (k + 3 * (i + 1))) (encode (pageRecs (n - (i + 1)) (a + roomAt a) (take (left - count) (drop (o + count) payload)))) ≡ end
+    → spliced tape′ (264 * (k + 3 * (i + 1))) (encode (pageRecs (n - (i + 1)) (a + leftInPage a) (take (left - count) (drop (o + count) payload)))) ≡ end
 lay-turn tape tape′ end k n i a left o count payload sent h room c e f inv =
-    let q : sent ≡ take (min (roomAt a) left) (drop o payload) = e ∙ ap (λ (w : ℕ). take w (drop o payload)) c in
-    let x = encode (three (0x02 ∷ addressBytes a ++ take (min (roomAt a) left) (drop o payload))) in
-    let y : ℕ → List ℕ = λ w. encode (pageRecs (n - (i + 1)) (a + roomAt a) (take (left - w) (drop (o + w) payload))) in
+    let q : sent ≡ take (min (leftInPage a) left) (drop o payload) = e ∙ ap (λ (w : ℕ). take w (drop o payload)) c in
+    let x = encode (threeRecs (0x02 ∷ addressBytes a ++ take (min (leftInPage a) left) (drop o payload))) in
+    let y : ℕ → List ℕ = λ w. encode (pageRecs (n - (i + 1)) (a + leftInPage a) (take (left - w) (drop (o + w) payload))) in
     let at : k + 3 * (i + 1) ≡ k + 3 * i + 3 = omega arith in
-    let s = length-take (min (roomAt a) left) (drop o payload) in
-    let l : length x ≡ 264 * 3 = encode-length (three-ok (0x02 ∷ addressBytes a ++ take (min (roomAt a) left) (drop o payload)) (omega (arith, s))) in
-    ap (λ (w : List ℕ). spliced w (264 * (k + 3 * (i + 1))) (y count)) (f ∙ ap (λ (w : List ℕ). spliced tape (264 * (k + 3 * i)) (encode (three (0x02 ∷ addressBytes a ++ w)))) q)
+    let s = length-take (min (leftInPage a) left) (drop o payload) in
+    let l : length x ≡ 264 * 3 = encode-length (three-ok (0x02 ∷ addressBytes a ++ take (min (leftInPage a) left) (drop o payload)) (omega (arith, s))) in
+    ap (λ (w : List ℕ). spliced w (264 * (k + 3 * (i + 1))) (y count)) (f ∙ ap (λ (w : List ℕ). spliced tape (264 * (k + 3 * i)) (encode (threeRecs (0x02 ∷ addressBytes a ++ w)))) q)
     ∙ (λ t. spliced (spliced tape (264 * (k + 3 * i)) x) (264 * at t) (y (c t)))
-    ∙ splice-recs tape (k + 3 * i) 3 x (y (min (roomAt a) left)) l (omega arith)
+    ∙ splice-recs tape (k + 3 * i) 3 x (y (min (leftInPage a) left)) l (omega arith)
     ∙ ap (spliced tape (264 * (k + 3 * i))) (sym (page-more n i a left o payload h))
     ∙ inv
 

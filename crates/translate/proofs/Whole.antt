@@ -6,7 +6,7 @@ use native.Mathlib.Omega.{arith}
 use native.Mathlib.Numerals.{add-one}
 use lib.ListN.{length, length-append}
 use Rattle.rules.specs.declared.Step.{Step}
-use Rattle.rules.specs.declared.Step.the-variants.{Erase, Lay, Guard}
+use Rattle.rules.specs.declared.Step.the-variants.{EraseAt, Lay, Guard}
 use Rattle.rules.specs.declared.Decoded.{Decoded}
 use Rattle.rules.specs.declared.Decoded.the-variants.{Good, Bad}
 use Rattle.rules.specs.Part.{Part}
@@ -16,7 +16,7 @@ use Rattle.rules.specs.Job.{settingLimit, stepAt, stepsFrom, stepsOf, withStep,
 use Rattle.rules.specs.JobRefusals.{jobRefusal}
 use Rattle.rules.specs.Records.{pagesTouched, stepRecs, jobRecs, billOf}
 use Rattle.rules.specs.Translate.{tapeOf}
-use Rattle.laws.proofs.RecordOk.{RecsOk, none}
+use Rattle.laws.proofs.RecordOk.{RecsOk, no-recs}
 use Rattle.tape.proofs.Encoded.{encode-length, encode-append}
 use Rattle.demand.proofs.Tapeable.{part-tapeable}
 use Rattle.demand.proofs.Holds.{step-ok, pages-long, recs-long}
@@ -28,18 +28,18 @@ use Rattle.translate.proofs.Splices.{splice-none, splice-recs}
 -- ---- each record fits its place
 
 guard-known : (p : Part) (payload : List ℕ) (w : Step) → Writable p payload w → settingMeant 0 w ≤ settingLimit
-guard-known p payload (Erase u a) h = omega arith
+guard-known p payload (EraseAt u a) h = omega arith
 guard-known p payload (Lay s) h = omega arith
 guard-known p payload (Guard g) h = h .guards g refl
 
 decoded-ok : (part : ℕ) (payload : List ℕ) (d : Decoded) → ((w : Step) → d ≡ Good w → Writable (partOf part) payload w) → RecsOk (decodedRecs (partOf part) payload d)
 decoded-ok part payload (Good w) h = step-ok (partOf part) (part-tapeable part) payload w (guard-known (partOf part) payload w (h w refl))
-decoded-ok part payload Bad h = none
+decoded-ok part payload Bad h = no-recs
 
 -- ---- how many they are
 
 step-count : (p : Part) (payload : List ℕ) (w : Step) → length (stepRecs p payload w) ≡ recordCount w
-step-count p payload (Erase u a) = refl
+step-count p payload (EraseAt u a) = refl
 step-count p payload (Lay s) = pages-long (pagesTouched (s .address) (s .length)) (s .address) (layBytes payload s)
 step-count p payload (Guard g) = refl
 
@@ -107,6 +107,6 @@ steps-over part payload job tape end i n k h inv =
 -- a lay of layLimit bytes touches 17 pages at most
 pub count-few : (p : Part) (payload : List ℕ) (d : Decoded) → ((w : Step) → d ≡ Good w → Writable p payload w) → decodedCount d ≤ 51
 count-few p payload Bad h = omega arith
-count-few p payload (Good (Erase u a)) h = omega arith
+count-few p payload (Good (EraseAt u a)) h = omega arith
 count-few p payload (Good (Lay s)) h = let q = h (Lay s) refl .lays s refl in omega arith
 count-few p payload (Good (Guard g)) h = omega arith

@@ -6,7 +6,7 @@ use lib.ListN.{length}
 use Rattle.rules.specs.declared.EraseUnit.{EraseUnit}
 use Rattle.rules.specs.declared.Span.{Span}
 use Rattle.rules.specs.declared.Step.{Step}
-use Rattle.rules.specs.declared.Step.the-variants.{Erase, Lay, Guard}
+use Rattle.rules.specs.declared.Step.the-variants.{EraseAt, Lay, Guard}
 use Rattle.rules.specs.declared.Decoded.{Decoded}
 use Rattle.rules.specs.declared.Decoded.the-variants.{Good, Bad}
 use Rattle.rules.specs.Part.{Part}
@@ -17,14 +17,14 @@ use Rattle.rules.specs.Records.{pagesTouched, stepRecs}
 use Rattle.job.specs.Counted.{Short}
 
 pub record Writable (p : Part) (payload : List ℕ) (w : Step) : Type 0 where
-  pub erases : (u : EraseUnit) (a : ℕ) → w ≡ Erase u a → a < 16777216
+  pub erases : (u : EraseUnit) (a : ℕ) → w ≡ EraseAt u a → a < 16777216
   pub lays : (s : Span) → w ≡ Lay s → Short s
   pub covered : (s : Span) → w ≡ Lay s → s .offset + s .length ≤ length payload
   pub guards : (g : ℕ) → w ≡ Guard g → g ≤ 31
 
 -- how many records a step becomes
 abbrev pub recordCount : Step → ℕ
-recordCount (Erase u a) = 3
+recordCount (EraseAt u a) = 3
 recordCount (Lay s) = 3 * pagesTouched (s .address) (s .length)
 recordCount (Guard g) = 3
 

@@ -17,7 +17,7 @@ ghost use Rattle.rules.specs.Tape.{Rec, encodeRec, encode, recordLength};
 ghost use Rattle.rules.specs.Parts.{partOf};
 ghost use Rattle.rules.specs.Job.{layBytes, stepsOf};
 ghost use Rattle.rules.specs.Translate.{translateTold, translateSeen, translateOf};
-ghost use Rattle.rules.specs.Records.{three, addressBytes, eraseBytes, pagesTouched, pageRecs, stepRecs, jobRecs};
+ghost use Rattle.rules.specs.Records.{threeRecs, addressBytes, eraseBytes, pagesTouched, pageRecs, stepRecs, jobRecs};
 ghost use Rattle.job.specs.Counted.{Short};
 ghost use Rattle.translate.specs.Writable.{Writable, WritableJob, recordCount, decodedRecs, decodedCount};
 ghost use Rattle.translate.specs.Spliced.{spliced, Fits};
@@ -45,7 +45,7 @@ fn put_end(tape: &mut [u8], k: usize)
 // 06, the command, finish.
 fn put_three(tape: &mut [u8], k: usize, b: &[u8])
     requires { ⌜ Fits (now tape) k 3 × (length (now b) ≤ 260) ⌝ }
-    ensures { λ _. ⌜ now (tape .exit) ≡ spliced (now (tape .entry)) (recordLength * k) (encode (three (now (b .entry)))) ⌝ }
+    ensures { λ _. ⌜ now (tape .exit) ≡ spliced (now (tape .entry)) (recordLength * k) (encode (threeRecs (now (b .entry)))) ⌝ }
 {
     let enable = [6u8];
     put_sent(tape, k, &enable);
@@ -58,7 +58,7 @@ fn put_three(tape: &mut [u8], k: usize, b: &[u8])
 // One page of a lay: the command, its address, the data.
 fn put_program(tape: &mut [u8], k: usize, a: usize, data: &[u8])
     requires { ⌜ Fits (now tape) k 3 × (length (now «data») ≤ 256) × (a < 16777216) ⌝ }
-    ensures { λ _. ⌜ now (tape .exit) ≡ spliced (now (tape .entry)) (recordLength * k) (encode (three (0x02 ∷ addressBytes a ++ now («data» .entry)))) ⌝ }
+    ensures { λ _. ⌜ now (tape .exit) ≡ spliced (now (tape .entry)) (recordLength * k) (encode (threeRecs (0x02 ∷ addressBytes a ++ now («data» .entry)))) ⌝ }
 {
     let head = [
         2,
@@ -76,7 +76,7 @@ fn put_program(tape: &mut [u8], k: usize, a: usize, data: &[u8])
 // An erase: the whole chip has no address.
 fn put_erase(tape: &mut [u8], k: usize, u: EraseUnit, a: usize)
     requires { ⌜ Fits (now tape) k 3 × (a < 16777216) ⌝ }
-    ensures { λ _. ⌜ now (tape .exit) ≡ spliced (now (tape .entry)) (recordLength * k) (encode (three (eraseBytes u a))) ⌝ }
+    ensures { λ _. ⌜ now (tape .exit) ≡ spliced (now (tape .entry)) (recordLength * k) (encode (threeRecs (eraseBytes u a))) ⌝ }
 {
     match u {
         EraseUnit::Sector => put_addressed(tape, k, 0x20, a),
@@ -88,7 +88,7 @@ fn put_erase(tape: &mut [u8], k: usize, u: EraseUnit, a: usize)
 
 fn put_addressed(tape: &mut [u8], k: usize, op: u8, a: usize)
     requires { ⌜ Fits (now tape) k 3 × (a < 16777216) ⌝ }
-    ensures { λ _. ⌜ now (tape .exit) ≡ spliced (now (tape .entry)) (recordLength * k) (encode (three (op ∷ addressBytes a))) ⌝ }
+    ensures { λ _. ⌜ now (tape .exit) ≡ spliced (now (tape .entry)) (recordLength * k) (encode (threeRecs (op ∷ addressBytes a))) ⌝ }
 {
     let b = [
         op,
@@ -101,7 +101,7 @@ fn put_addressed(tape: &mut [u8], k: usize, op: u8, a: usize)
 
 fn put_guard(part: u32, tape: &mut [u8], k: usize, g: u8)
     requires { ⌜ Fits (now tape) k 3 × (g ≤ 31) ⌝ }
-    ensures { λ _. ⌜ now (tape .exit) ≡ spliced (now (tape .entry)) (recordLength * k) (encode (three (0x01 ∷ partOf part .guardBytes g))) ⌝ }
+    ensures { λ _. ⌜ now (tape .exit) ≡ spliced (now (tape .entry)) (recordLength * k) (encode (threeRecs (0x01 ∷ partOf part .guardBytes g))) ⌝ }
 {
     let w = parts::guard_bytes(part, g);
     let b = [1, w[0], w[1]];
@@ -136,7 +136,7 @@ fn put_step(part: u32, tape: &mut [u8], k: usize, w: Step, payload: &[u8]) -> us
     ensures { λ r. ⌜ (r ≡ k + recordCount w) × (now (tape .exit) ≡ spliced (now (tape .entry)) (recordLength * k) (encode (stepRecs (partOf part) (now (payload .entry)) w))) ⌝ }
 {
     match w {
-        Step::Erase(u, a) => {
+        Step::EraseAt(u, a) => {
             put_erase(tape, k, u, a);
             k + 3
         }

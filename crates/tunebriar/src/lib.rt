@@ -253,7 +253,7 @@ fn quoted(q: Quoted) -> TbBill
             index: 0,
             programs: b.programs,
             erases: b.erases,
-            writes: b.writes,
+            register_writes: b.register_writes,
             length: b.length as u64,
         },
         Quoted::Refused(z) => TbBill {
@@ -261,7 +261,7 @@ fn quoted(q: Quoted) -> TbBill
             index: z.index as u64,
             programs: 0,
             erases: 0,
-            writes: 0,
+            register_writes: 0,
             length: 0,
         },
     }

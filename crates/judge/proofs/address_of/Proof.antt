@@ -44,7 +44,7 @@ rem-result c =
     let s = c .before .before .before .size-of in
     let h = part-sound (c .before .before .before .before .before .args .part) in
     let e = h .size-is in
-    omega (arith, h .some)
+    omega (arith, h .not-empty)
 
 returns : tie.Need-returns
 unfolding addressOf
@@ -53,7 +53,7 @@ returns c =
     let h = part-sound (c .before .before .before .before .before .args .part) in
     let e = h .size-is in (
       rw (← c .before .before .byte-at .ensures, ← c .before .byte-at2 .ensures, ← c .byte-at3 .ensures, ← s .ensures),
-      rw (← s .ensures) (mod-lt _ (omega (arith, h .some))),
+      rw (← s .ensures) (mod-lt _ (omega (arith, h .not-empty))),
     )
 
 pub address-of-spec : {M : Type 1} → statement M

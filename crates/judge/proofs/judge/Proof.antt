@@ -13,25 +13,25 @@ returns : tie.Need-returns
 unfolding judgeOf if_then_else_
 returns c = simp (c .before .if1 .taken) (c .ignore .ensures)
 
-is-asleep-requires : tie.Need-is-asleep-requires
-is-asleep-requires c κs = search needs
+is-unheard-asleep-requires : tie.Need-is-unheard-asleep-requires
+is-unheard-asleep-requires c κs = search needs
 
 ignore-requires-2 : tie.Need-ignore-requires-2
 ignore-requires-2 c κs = search needs
 
 returns-2 : tie.Need-returns-2
 unfolding judgeOf if_then_else_
-returns-2 c = simp (ne-eqb _ _ (c .before .before .before .if1 .left), ← c .before .before .is-asleep .ensures, c .before .if2 .taken) (c .ignore2 .ensures)
+returns-2 c = simp (ne-eqb _ _ (c .before .before .before .if1 .left), ← c .before .before .is-unheard-asleep .ensures, c .before .if2 .taken) (c .ignore2 .ensures)
 
-is-held-requires : tie.Need-is-held-requires
-is-held-requires c κs = search needs
+is-unheard-busy-requires : tie.Need-is-unheard-busy-requires
+is-unheard-busy-requires c κs = search needs
 
 ignore-requires-3 : tie.Need-ignore-requires-3
 ignore-requires-3 c κs = search needs
 
 returns-3 : tie.Need-returns-3
 unfolding judgeOf if_then_else_
-returns-3 c = simp (ne-eqb _ _ (c .before .before .before .before .before .if1 .left), ← c .before .before .before .before .is-asleep .ensures, c .before .before .before .if2 .left, ← c .before .before .is-held .ensures, c .before .if3 .taken) (c .ignore3 .ensures)
+returns-3 c = simp (ne-eqb _ _ (c .before .before .before .before .before .if1 .left), ← c .before .before .before .before .is-unheard-asleep .ensures, c .before .before .before .if2 .left, ← c .before .before .is-unheard-busy .ensures, c .before .if3 .taken) (c .ignore3 .ensures)
 
 enum-known-c : tie.Need-enum-known-c
 enum-known-c c = search needs
@@ -44,14 +44,14 @@ ignore-requires-4 c κs = search needs
 
 returns-4 : tie.Need-returns-4
 unfolding judgeOf ofKnown if_then_else_
-returns-4 c = simp (ne-eqb _ _ (c .before .before .before .before .before .before .before .if1 .left), ← c .before .before .before .before .before .before .is-asleep .ensures, c .before .before .before .before .before .if2 .left, ← c .before .before .before .before .is-held .ensures, c .before .before .before .if3 .left, c .before .enum-told .given .1) (c .ignore4 .ensures)
+returns-4 c = simp (ne-eqb _ _ (c .before .before .before .before .before .before .before .if1 .left), ← c .before .before .before .before .before .before .is-unheard-asleep .ensures, c .before .before .before .before .before .if2 .left, ← c .before .before .before .before .is-unheard-busy .ensures, c .before .before .before .if3 .left, c .before .enum-told .given .1) (c .ignore4 .ensures)
 
 judge-kind-requires : tie.Need-judge-kind-requires
 judge-kind-requires c κs = search needs
 
 returns-5 : tie.Need-returns-5
 unfolding judgeOf ofKnown if_then_else_
-returns-5 c = simp (ne-eqb _ _ (c .before .before .before .before .before .before .before .before .if1 .left), ← c .before .before .before .before .before .before .before .is-asleep .ensures, c .before .before .before .before .before .before .if2 .left, ← c .before .before .before .before .before .is-held .ensures, c .before .before .before .before .if3 .left, c .before .before .c .given .1) (c .judge-kind .ensures)
+returns-5 c = simp (ne-eqb _ _ (c .before .before .before .before .before .before .before .before .if1 .left), ← c .before .before .before .before .before .before .before .is-unheard-asleep .ensures, c .before .before .before .before .before .before .if2 .left, ← c .before .before .before .before .before .is-unheard-busy .ensures, c .before .before .before .before .if3 .left, c .before .before .c .given .1) (c .judge-kind .ensures)
 
 pub judge-spec : {M : Type 1} → statement M
 judge-spec =
@@ -59,10 +59,10 @@ judge-spec =
     (tie.spec
     ignore-requires
     returns
-    is-asleep-requires
+    is-unheard-asleep-requires
     ignore-requires-2
     returns-2
-    is-held-requires
+    is-unheard-busy-requires
     ignore-requires-3
     returns-3
     enum-known-c

@@ -1,5 +1,5 @@
 use Rattle.translate.specs.Spliced.{spliced}
-use Rattle.rules.specs.Records.{three}
+use Rattle.rules.specs.Records.{threeRecs}
 use Rattle.rules.specs.Tape.{encode}
 use Rattle.rules.specs.Parts.{partOf}
 use Rattle.rules.specs.Fm25q16.{fmGuardBytes, fm25q16}
@@ -34,7 +34,7 @@ unfolding partOf fm25q16 fmGuardBytes
 returns c =
     let s = c .before .before .before .before .before .before .before .args in
     c .before .before .put-three .ensures
-    ∙ ap (λ (w : List ℕ). spliced (s .tape .now) (264 * s .k) (encode (three (1 ∷ getD w 0 0 ∷ getD w 1 0 ∷ [])))) (c .before .before .before .before .before .guard-bytes .ensures)
+    ∙ ap (λ (w : List ℕ). spliced (s .tape .now) (264 * s .k) (encode (threeRecs (1 ∷ getD w 0 0 ∷ getD w 1 0 ∷ [])))) (c .before .before .before .before .before .guard-bytes .ensures)
 
 pub put-guard-spec : {M : Type 1} → statement M
 put-guard-spec =

@@ -1,6 +1,6 @@
 use Rattle.translate.proofs.Splices.{head-and-data}
 use Rattle.translate.specs.Spliced.{spliced}
-use Rattle.rules.specs.Records.{three}
+use Rattle.rules.specs.Records.{threeRecs}
 use lib.ListN.{replicate}
 use Rattle.rules.specs.Tape.{encode}
 use Prim.Native.Nat.{ℕ, _*_, _/_, _%_}
@@ -57,7 +57,7 @@ returns c =
     let s = c .before .before .before .before .before .before .before .before .before .before .before .before .before .before .before .args in
     let a = s .a in
     c .before .before .put-three .ensures
-    ∙ ap (λ (w : List ℕ). spliced (s .tape .now) (264 * s .k) (encode (three w)))
+    ∙ ap (λ (w : List ℕ). spliced (s .tape .now) (264 * s .k) (encode (threeRecs w)))
     (head-and-data (replicate 260 0) (c .before .before .before .before .before .before .before .before .before .before .put .last .0) (c .before .before .before .before .before .before .before .put2 .last .0) (2 ∷ a / 65536 % 256 ∷ a / 256 % 256 ∷ a % 256 ∷ []) (s .«data» .now) refl (c .before .before .before .before .before .before .before .before .before .before .put .ensures) (c .before .before .before .before .before .before .before .put2 .ensures))
 
 pub put-program-spec : {M : Type 1} → statement M

@@ -1,4 +1,4 @@
-use Rattle.rules.specs.Job.{eraseAt}
+use Rattle.rules.specs.Job.{decodedErase}
 use Rattle.lists.specs.Choice.{if_then_else_}
 use borrow.Author.Tests.{lt-leb, le-leb, not-true, not-false}
 use borrow.Author.Needs.{needs}
@@ -12,7 +12,7 @@ byte-at-requires : tie.Need-byte-at-requires
 byte-at-requires c κs = search needs
 
 returns : tie.Need-returns
-unfolding eraseAt if_then_else_
+unfolding decodedErase if_then_else_
 returns c = rw (← c .before .byte-at .ensures, lt-leb _ _ (c .if1 .taken))
 
 add-are-zeros : tie.Need-add-are-zeros
@@ -22,7 +22,7 @@ are-zeros-requires : tie.Need-are-zeros-requires
 are-zeros-requires c κs = search needs
 
 returns-2 : tie.Need-returns-2
-unfolding eraseAt if_then_else_
+unfolding decodedErase if_then_else_
 returns-2 c =
     let k = c .before .before .before .byte-at in
     let z = c .before .are-zeros in
@@ -38,7 +38,7 @@ read4-requires : tie.Need-read4-requires
 read4-requires c κs = search needs
 
 returns-3 : tie.Need-returns-3
-unfolding eraseAt if_then_else_
+unfolding decodedErase if_then_else_
 returns-3 c =
     let k = c .before .before .before .before .before .byte-at in
     let z = c .before .before .before .are-zeros in

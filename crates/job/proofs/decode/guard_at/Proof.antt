@@ -1,4 +1,4 @@
-use Rattle.rules.specs.Job.{guardAt}
+use Rattle.rules.specs.Job.{decodedGuard}
 use Rattle.lists.specs.Choice.{if_then_else_}
 use borrow.Author.Tests.{lt-leb, le-leb, not-true, not-false}
 use borrow.Author.Needs.{needs}
@@ -12,7 +12,7 @@ byte-at-requires : tie.Need-byte-at-requires
 byte-at-requires c κs = search needs
 
 returns : tie.Need-returns
-unfolding guardAt if_then_else_
+unfolding decodedGuard if_then_else_
 returns c = rw (← c .before .byte-at .ensures, lt-leb _ _ (c .if1 .taken))
 
 add-are-zeros : tie.Need-add-are-zeros
@@ -22,14 +22,14 @@ are-zeros-requires : tie.Need-are-zeros-requires
 are-zeros-requires c κs = search needs
 
 returns-2 : tie.Need-returns-2
-unfolding guardAt if_then_else_
+unfolding decodedGuard if_then_else_
 returns-2 c =
     let k = c .before .before .before .byte-at in
     let z = c .before .are-zeros in
     rw (← k .ensures, le-leb _ _ (c .before .before .if1 .left), ← z .ensures, not-true (z .result) (c .if2 .taken))
 
 returns-3 : tie.Need-returns-3
-unfolding guardAt if_then_else_
+unfolding decodedGuard if_then_else_
 returns-3 c =
     let k = c .before .before .before .byte-at in
     let z = c .before .are-zeros in

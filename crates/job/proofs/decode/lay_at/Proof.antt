@@ -1,4 +1,4 @@
-use Rattle.rules.specs.Job.{layAt}
+use Rattle.rules.specs.Job.{decodedLay}
 use Rattle.lists.specs.Choice.{if_then_else_}
 use borrow.Author.Tests.{eq-eqb, ne-eqb}
 use borrow.Author.Needs.{needs}
@@ -12,7 +12,7 @@ byte-at-requires : tie.Need-byte-at-requires
 byte-at-requires c κs = search needs
 
 returns : tie.Need-returns
-unfolding layAt if_then_else_
+unfolding decodedLay if_then_else_
 returns c = rw (← c .before .byte-at .ensures, ne-eqb _ _ (c .if1 .taken))
 
 add-read4 : tie.Need-add-read4
@@ -34,7 +34,7 @@ read4-requires-3 : tie.Need-read4-requires-3
 read4-requires-3 c κs = search needs
 
 returns-2 : tie.Need-returns-2
-unfolding layAt if_then_else_
+unfolding decodedLay if_then_else_
 returns-2 c = rw (← c .before .before .before .before .byte-at .ensures, eq-eqb _ _ (c .before .before .before .if1 .left), c .before .before .read4 .ensures, c .before .read42 .ensures, c .read43 .ensures)
 
 pub lay-at-spec : {M : Type 1} → statement M
