@@ -1,5 +1,6 @@
 pub mod Choices
 pub mod Ignored
+pub mod Entry
 pub mod Counting
 pub mod Reach
 pub mod Erases

@@ -20,16 +20,12 @@ use Rattle.rules.specs.declared.Decoded.{Decoded}
 use Rattle.rules.specs.declared.Decoded.the-variants.{Good, Bad}
 use Rattle.rules.specs.declared.Kind.{Kind}
 use Rattle.rules.specs.declared.Command.the-variants.{Known}
-use Rattle.rules.specs.declared.Verdict.{Verdict}
-use Rattle.rules.specs.declared.Verdict.the-variants.{CarriedOut, Ignored}
 use Rattle.rules.specs.Kinds.{codeOf}
 use Rattle.rules.specs.Part.{Part, commandOf}
 use Rattle.rules.specs.Parts.{partOf}
 use Rattle.rules.specs.Status.{regsOf}
-use Rattle.rules.specs.Verdict.{verdictTold, verdictOf}
-use Rattle.rules.specs.Transaction.{turnBy, turnOf}
 use Rattle.rules.specs.Refusals.{refusal, accepted, _orElse_, transactRefusal, eventRefusal}
-use Rattle.rules.specs.Transact.{TransactSeen, isHigh, transactServed, transactRefused, transactBy, transactOf}
+use Rattle.rules.specs.Transact.{TransactSeen, isHigh, transactOf}
 use Rattle.rules.specs.EventEntries.{EventTold, eventBy, finishOf, powerCycleOf}
 use Rattle.rules.specs.Tape.{firstBad}
 use Rattle.rules.specs.Replay.{badRecord, recordsRefusal, replayRefusal, ReplaySeen, replayServed, replayRefused, replayBy, replayFirstOf, replayOf}
@@ -37,9 +33,9 @@ use Rattle.rules.specs.Job.{stepAt, stepCount}
 use Rattle.rules.specs.JobRefusals.{stepNumber, decodedNumber, settingAfter, stepsRefusal, jobRefusal}
 use Rattle.rules.specs.Translate.{translateRefusal, TranslateSeen, translateBy, translateOf, BillTold, quoteBy, quoteOf}
 use Rattle.rules.specs.CEntries.{tbEvent, tbBill, tbTransact, tbReplay, tbTranslate}
-use Rattle.laws.proofs.CarriedOut.{carried-passed}
 use Rattle.claims.proofs.Choices.{either-true}
 use Rattle.claims.proofs.Ignored.{ignored-number}
+use Rattle.claims.proofs.Entry.{by-answer, answered-0}
 
 -- ---- the statement
 
@@ -93,6 +89,10 @@ else-row row ks z y h k = go (eqb (z .number) 0) refl
     go true e = later row ks (y .number) k
     go false e = earlier row ks (z .number) (eqb-false (z .number) 0 e) h
 
+-- true is not false
+never : {A : Type 0} → _≡_ {A = Bool} true false → A
+never q = let c : _≡_ {A = ℕ} 0 1 = cc in absurd (omega arith)
+
 -- ---- an entry answers a where it does not refuse, and else b
 
 tells : {S : Type 0} (served : S → Bool) (number : S → ℕ) (Fine : ℕ → Type 0) (row : List ℕ) (z : Refusal) (a b : S)
@@ -102,18 +102,14 @@ unfolding if_then_else_
 tells served number Fine row z a b fa fine fb same h = go (eqb (z .number) 0) refl
   where
     go : (t : Bool) → eqb (z .number) 0 ≡ t → Tells Fine (row ++ []) (served (if t then a else b)) (number (if t then a else b))
-    go true e = record { of-served = λ q. fine; of-refused = λ q. let w : _≡_ {A = Bool} true false = sym fa ∙ q in let c : _≡_ {A = ℕ} 0 1 = cc in absurd (omega arith) }
+    go true e = record { of-served = λ q. fine; of-refused = λ q. never (sym fa ∙ q) }
     go false e =
         record {
-          of-served = λ q. let w : _≡_ {A = Bool} true false = sym q ∙ fb in let c : _≡_ {A = ℕ} 0 1 = cc in absurd (omega arith);
+          of-served = λ q. never (sym q ∙ fb);
           of-refused = λ q. rw same (earlier row [] (z .number) (eqb-false (z .number) 0 e) h);
         }
 
 -- ---- transact: 0 or 10 to 16 against 1 to 7
-
-verdict-number : (p : Part) (r : Regs) (b : List ℕ) (x : ℕ) (high : Bool) (v : Verdict) → verdictOf p r b x high ≡ v → VerdictNumber (verdictTold v .number)
-verdict-number p r b x high (CarriedOut k) e = inl refl
-verdict-number p r b x high (Ignored w) e = inr (ignored-number p r b x high w e)
 
 pub transact-row : (part al : ℕ) (kept : Kept) (n x ol : ℕ) (m : Meter) → InRow (1 ∷ 2 ∷ 3 ∷ 4 ∷ 5 ∷ 6 ∷ 7 ∷ 0 ∷ []) (transactRefusal part al kept n x ol m .number)
 unfolding transactRefusal
@@ -123,11 +119,14 @@ transact-row part al kept n x ol m =
 
 pub transact-number-tells : (part : ℕ) (kept : Kept) (m : Meter) (l o b : List ℕ) (x wp : ℕ)
     → Tells VerdictNumber (1 ∷ 2 ∷ 3 ∷ 4 ∷ 5 ∷ 6 ∷ 7 ∷ []) (transactOf part kept m l o b x wp .answer .served) (transactOf part kept m l o b x wp .answer .number)
-unfolding transactOf transactBy transactServed transactRefused turnOf
 transact-number-tells part kept m l o b x wp =
-    tells (λ (s : TransactSeen). s .answer .served) (λ (s : TransactSeen). s .answer .number) VerdictNumber (1 ∷ 2 ∷ 3 ∷ 4 ∷ 5 ∷ 6 ∷ 7 ∷ [])
-    (transactRefusal part (length l) kept (length b) x (length o) m) _ _ refl
-    (verdict-number (partOf part) (regsOf kept) b x (isHigh wp) _ refl) refl refl (transact-row part (length l) kept (length b) x (length o) m)
+    by-answer part kept m l o b x wp (λ s. Tells VerdictNumber (1 ∷ 2 ∷ 3 ∷ 4 ∷ 5 ∷ 6 ∷ 7 ∷ []) (s .answer .served) (s .answer .number))
+    (λ c k e. record { of-served = λ q. inl refl; of-refused = never })
+    (λ c w e. record { of-served = λ q. inr (ignored-number (partOf part) (regsOf kept) b x (isHigh wp) w e); of-refused = never })
+    (λ h k. record {
+      of-served = λ q. never (sym q);
+      of-refused = λ q. earlier (1 ∷ 2 ∷ 3 ∷ 4 ∷ 5 ∷ 6 ∷ 7 ∷ []) [] _ (λ n. omega arith) (transact-row part (length l) kept (length b) x (length o) m);
+    })
 
 -- ---- finish and power cycle: 0 against 1 and 3
 
@@ -281,17 +280,6 @@ quote-served-told part s job pl =
 pub kind-told : (part : ℕ) (kept : Kept) (m : Meter) (l o b : List ℕ) (x wp : ℕ)
     → transactOf part kept m l o b x wp .answer .served ≡ true → transactOf part kept m l o b x wp .answer .number ≡ 0
     → (k : Kind) × (commandOf (partOf part) (getD b 0 0) ≡ Known k) × (transactOf part kept m l o b x wp .answer .code ≡ codeOf k)
-unfolding transactOf transactBy transactServed transactRefused turnOf if_then_else_
-kind-told part kept m l o b x wp = go (accepted z) (verdictOf (partOf part) (regsOf kept) b x (isHigh wp)) refl
-  where
-    z : Refusal
-    z = transactRefusal part (length l) kept (length b) x (length o) m
-
-    seen : Bool → Verdict → TransactSeen
-    seen t v = if t then transactServed kept m o b (turnBy (partOf part) (regsOf kept) l b v) else transactRefused kept m l o z
-
-    go : (t : Bool) (v : Verdict) → verdictOf (partOf part) (regsOf kept) b x (isHigh wp) ≡ v → seen t v .answer .served ≡ true → seen t v .answer .number ≡ 0
-        → (k : Kind) × (commandOf (partOf part) (getD b 0 0) ≡ Known k) × (seen t v .answer .code ≡ codeOf k)
-    go true (CarriedOut k) e s n = (k, carried-passed (partOf part) (regsOf kept) b x (isHigh wp) k e .known, refl)
-    go true (Ignored w) e s n = let h = ignored-number (partOf part) (regsOf kept) b x (isHigh wp) w e in absurd (omega arith)
-    go false v e s n = let c : _≡_ {A = ℕ} 0 1 = cc in absurd (omega arith)
+kind-told part kept m l o b x wp s n =
+    let h = answered-0 part kept m l o b x wp n in
+    (h .0, h .1 .known, ap (λ (w : TransactSeen). w .answer .code) (h .1 .seen-is))
