@@ -12,12 +12,16 @@ pub mod RoundTrip
 pub mod Formed
 pub mod Unique
 pub mod Prefix
+pub mod Translated
 pub mod JobMeans
 pub mod ReadThrough
 pub mod UniqueC
 pub mod UniqueHeld
 pub mod RegsMeant
+pub mod StepSays
+pub mod StepWrong
 pub mod JobRefused
+pub mod TranslateRefused
 pub mod NumbersTell
 pub mod CountTold
 pub mod IgnoredLent

@@ -34,6 +34,7 @@ use Rattle.rules.specs.JobRefusals.{stepNumber, decodedNumber, settingAfter, st
 use Rattle.rules.specs.Translate.{translateRefusal, TranslateSeen, translateBy, translateOf, BillTold, quoteBy, quoteOf}
 use Rattle.rules.specs.CEntries.{tbEvent, tbBill, tbTransact, tbReplay, tbTranslate}
 use Rattle.claims.proofs.Choices.{either-true}
+use Rattle.claims.proofs.Choices.{never}
 use Rattle.claims.proofs.Ignored.{ignored-number}
 use Rattle.claims.proofs.Entry.{by-answer, answered-0}
 
@@ -88,10 +89,6 @@ else-row row ks z y h k = go (eqb (z .number) 0) refl
     go : (t : Bool) → eqb (z .number) 0 ≡ t → InRow (row ++ ks) ((if t then y else z) .number)
     go true e = later row ks (y .number) k
     go false e = earlier row ks (z .number) (eqb-false (z .number) 0 e) h
-
--- true is not false
-never : {A : Type 0} → _≡_ {A = Bool} true false → A
-never q = let c : _≡_ {A = ℕ} 0 1 = cc in absurd (omega arith)
 
 -- ---- an entry answers a where it does not refuse, and else b
 
