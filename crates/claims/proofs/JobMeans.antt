@@ -51,7 +51,7 @@ module _ (part s : ℕ) (job payload buffer : List ℕ) (served : translateOf pa
       (λ e q. never (sym q))
       served
 
-  tape-is : tapeWritten part s job payload buffer ≡ w
+  pub tape-is : tapeWritten part s job payload buffer ≡ w
   tape-is = written .1
 
   unrefused : jobRefusal part s job (length payload) .number ≡ 0

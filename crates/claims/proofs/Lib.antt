@@ -8,6 +8,7 @@ pub mod Programs
 pub mod Stays
 pub mod Allowed
 pub mod Table
+pub mod ProtectionTable
 pub mod RoundTrip
 pub mod Formed
 pub mod Unique
@@ -22,6 +23,7 @@ pub mod StepSays
 pub mod StepWrong
 pub mod JobRefused
 pub mod TranslateRefused
+pub mod Witness
 pub mod NumbersTell
 pub mod CountTold
 pub mod IgnoredLent
