@@ -42,7 +42,8 @@ module _ (part s : ℕ) (job payload buffer : List ℕ) (served : translateOf pa
   rs = jobRecs (partOf part) payload (stepsOf job)
 
   -- a tape that is served is the job's tape
-  written : (jobRefusal part s job (length payload) .number ≡ 0) × (tapeWritten part s job payload buffer ≡ w)
+  written : (jobRefusal part s job (length payload) .number ≡ 0)
+      × (take (translateOf part s job payload buffer .answer .length) (translateOf part s job payload buffer .tape) ≡ w)
   written =
       by-translation part s job payload buffer
       (λ v. v .answer .served ≡ true → (jobRefusal part s job (length payload) .number ≡ 0) × (take (v .answer .length) (v .tape) ≡ w))

@@ -51,14 +51,14 @@ protected-as-in-the-table s sec0 sec1 line =
 
 -- .. and every setting has its line
 line-of : (b : ℕ) → b < 8 → (sec0 : Area) × (sec1 : Area) × (b ∣ sec0 ∣ sec1)
-line-of zero h = (none, none, line-0)
-line-of (suc zero) h = (64 KB, 4 KB, line-1)
-line-of (suc (suc zero)) h = (128 KB, 8 KB, line-2)
-line-of (suc (suc (suc zero))) h = (256 KB, 16 KB, line-3)
-line-of (suc (suc (suc (suc zero)))) h = (512 KB, 32 KB, line-4)
-line-of (suc (suc (suc (suc (suc zero))))) h = (1024 KB, 32 KB, line-5)
-line-of (suc (suc (suc (suc (suc (suc zero)))))) h = (all, all, line-6)
-line-of (suc (suc (suc (suc (suc (suc (suc zero))))))) h = (all, all, line-7)
+line-of zero h = (_, _, line-0)
+line-of (suc zero) h = (_, _, line-1)
+line-of (suc (suc zero)) h = (_, _, line-2)
+line-of (suc (suc (suc zero))) h = (_, _, line-3)
+line-of (suc (suc (suc (suc zero)))) h = (_, _, line-4)
+line-of (suc (suc (suc (suc (suc zero))))) h = (_, _, line-5)
+line-of (suc (suc (suc (suc (suc (suc zero)))))) h = (_, _, line-6)
+line-of (suc (suc (suc (suc (suc (suc (suc zero))))))) h = (_, _, line-7)
 line-of (suc (suc (suc (suc (suc (suc (suc (suc b)))))))) h = absurd (omega arith)
 
 pub every-setting-has-a-line : (s : ℕ) → (sec0 : Area) × (sec1 : Area) × (BP s ∣ sec0 ∣ sec1)
