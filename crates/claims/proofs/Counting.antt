@@ -5,7 +5,6 @@ use mathlib.Core.List.{List}
 use mathlib.Core.Logic.{_↔_}
 use Prim.Native.Nat.{ℕ, _+_, _≤_}
 use native.Mathlib.Omega.{arith}
-use lib.ListN.{getD}
 use Rattle.rules.specs.declared.Kept.{Kept}
 use Rattle.rules.specs.declared.Meter.{Meter}
 use Rattle.rules.specs.declared.Reason.{Reason}
@@ -13,18 +12,16 @@ use Rattle.rules.specs.declared.EraseUnit.{EraseUnit}
 use Rattle.rules.specs.declared.Write.{Write}
 use Rattle.rules.specs.declared.Write.the-variants.{Program, Erase, WriteStatus}
 use Rattle.rules.specs.declared.Kind.the-variants.{Writes}
-use Rattle.rules.specs.declared.Command.the-variants.{Known}
 use Rattle.rules.specs.declared.Verdict.{Verdict}
 use Rattle.rules.specs.declared.Verdict.the-variants.{CarriedOut, Ignored}
 use Rattle.rules.specs.Kinds.{ofWrite}
-use Rattle.rules.specs.Part.{commandOf}
 use Rattle.rules.specs.Parts.{partOf}
 use Rattle.rules.specs.Status.{regsOf}
 use Rattle.rules.specs.Counts.{counted, ignoredCounted, meterAfter}
 use Rattle.rules.specs.Transact.{isHigh, transactOf}
 use Rattle.laws.proofs.CarriedOut.{by-write, carried-passed}
 use Rattle.claims.proofs.Ignored.{ignored-number}
-use Rattle.claims.proofs.Entry.{by-answer}
+use Rattle.claims.proofs.Entry.{FirstSays, by-answer}
 
 -- a count moves from n to `after`: by one for its cause, and for nothing else
 pub record Rises (Cause : Type 0) (n after : ℕ) : Type 0 where
@@ -90,8 +87,7 @@ module _ (m : Meter) where
         ignored = record { rises = λ e. ap (λ (u : Verdict). meterAfter m u .ignored) (e .1); stays = stays-at (λ a. a .ignored) Ignores ignored-of (λ w h. absurd (h (w, refl))) v };
       }
 
--- ---- and so for a caller of the entry, who goes by the answer's number and the first byte: 0 is accepted, 10 to 16 is ignored;
--- a refusal, 1 to 7, leaves all four counts
+-- ---- and so for a caller of the entry, who goes by the answer's number and the first byte; a refusal, 1 to 7, leaves all four
 
 rises-as : (A B : Type 0) (n after : ℕ) → A ↔ B → Rises A n after → Rises B n after
 rises-as A B n after e h = record { rises = λ c. h .rises (e .1 c); stays = λ c. h .stays (λ a. c (e .0 a)) }
@@ -105,15 +101,17 @@ counts-as A B C D m after e f h =
       ignored = rises-as C D _ _ f (h .ignored);
     }
 
-abbrev pub AcceptedAt : ℕ → List ℕ → ℕ → Write → Type 0
-AcceptedAt part b number w = (number ≡ 0) × (commandOf (partOf part) (getD b 0 0) ≡ Known (Writes w))
+-- the answer is 0 and the first byte says the write w
+abbrev pub AcceptedAt : (part : ℕ) (b : List ℕ) (number : ℕ) (w : Write) → Type 0
+AcceptedAt part b number w = (number ≡ 0) × FirstSays part b (Writes w)
 
-abbrev pub IgnoredAt : ℕ → Type 0
+-- the answer is 10 to 16
+abbrev pub IgnoredAt : (number : ℕ) → Type 0
 IgnoredAt number = (10 ≤ number) × (number ≤ 16)
 
 pub meter-counts-lent : (part : ℕ) (kept : Kept) (m : Meter) (l o b : List ℕ) (x wp : ℕ)
-    → Counts (AcceptedAt part b (transactOf part kept m l o b x wp .answer .number)) (IgnoredAt (transactOf part kept m l o b x wp .answer .number))
-    m (transactOf part kept m l o b x wp .answer .meter)
+    → let answer = transactOf part kept m l o b x wp .answer in
+    Counts (AcceptedAt part b (answer .number)) (IgnoredAt (answer .number)) m (answer .meter)
 meter-counts-lent part kept m l o b x wp =
     by-answer part kept m l o b x wp
     (λ s. Counts (AcceptedAt part b (s .answer .number)) (IgnoredAt (s .answer .number)) m (s .answer .meter))

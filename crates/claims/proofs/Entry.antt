@@ -29,7 +29,12 @@ use Rattle.rules.specs.Transact.{TransactSeen, transactTold, transactSeen, isHi
 use Rattle.laws.proofs.Accepted.{past-three, room-had, Taken, taken}
 use Rattle.laws.proofs.Answered.{seenBy, transact-served, transact-refused}
 use Rattle.laws.proofs.CarriedOut.{carried-passed, turn-is}
+use Rattle.claims.proofs.Choices.{never}
 use Rattle.claims.proofs.Ignored.{ignored-number}
+
+-- the first of the bytes b says a command of kind k to the chip
+abbrev pub FirstSays : (part : ℕ) (b : List ℕ) (k : Kind) → Type 0
+FirstSays part b k = commandOf (partOf part) (getD b 0 0) ≡ Known k
 
 -- a transaction to which none of 1 to 7 applies is not refused
 pub not-refused : (part al : ℕ) (kept : Kept) (n x ol : ℕ) (m : Meter) → Taken part al kept n x ol m → transactRefusal part al kept n x ol m .number ≡ 0
@@ -67,6 +72,7 @@ module _ (part : ℕ) (kept : Kept) (m : Meter) (l o b : List ℕ) (x wp : ℕ) 
       c _ (refusal 1) _ (lit≤ tt) (c _ (refusal 2) _ (lit≤ tt) (c _ (refusal 3) _ (lit≤ tt) (c _ (refusal 4) _ (lit≤ tt)
       (c _ (refusal 5) _ (lit≤ tt) (c _ (refusal 6) _ (lit≤ tt) (c _ (refusal 7) (refusal 0) (lit≤ tt) (lit≤ tt)))))))
 
+  -- P holds of all that a caller is left with, if it does in each of the three cases
   pub by-answer : (P : TransactSeen → Type 0)
       → (Unrefused → (k : Kind) → verdict ≡ CarriedOut k → P (seenAt (CarriedOut k)))
       → (Unrefused → (w : Reason) → verdict ≡ Ignored w → P (seenAt (Ignored w)))
@@ -98,7 +104,7 @@ module _ (part : ℕ) (kept : Kept) (m : Meter) (l o b : List ℕ) (x wp : ℕ) 
       (λ c w e. left)
       (λ h k. left)
 
-  -- so does any answer but 0
+  -- any answer but 0 leaves the whole array
   pub array-left : (seen .answer .number ≡ 0 → ⊥) → seen .array ≡ l
   array-left = by-answer (λ s. (s .answer .number ≡ 0 → ⊥) → s .array ≡ l) (λ c k e n. absurd (n refl)) (λ c w e n. refl) (λ h k n. refl)
 
@@ -114,8 +120,8 @@ module _ (part : ℕ) (kept : Kept) (m : Meter) (l o b : List ℕ) (x wp : ℕ) 
   refusal-leaves-all e =
       let h =
       by-answer (λ s. s .answer .served ≡ false → (s .answer .regs ≡ kept) × (s .answer .meter ≡ m) × (s .array ≡ l) × (s .out ≡ o))
-      (λ c k f q. let i : _≡_ {A = ℕ} 0 1 = cc in absurd (omega arith))
-      (λ c w f q. let i : _≡_ {A = ℕ} 0 1 = cc in absurd (omega arith))
+      (λ c k f q. never q)
+      (λ c w f q. never q)
       (λ h k q. (refl, refl, refl, refl)) e in
       record { regs = h .0; meter = h .1; array = h .2; out = h .3 }
 
@@ -124,7 +130,7 @@ module _ (part : ℕ) (kept : Kept) (m : Meter) (l o b : List ℕ) (x wp : ℕ) 
   pub record Done (k : Kind) : Type 0 where
     pub unrefused : Unrefused
     pub carried : verdict ≡ CarriedOut k
-    pub known : commandOf (partOf part) (getD b 0 0) ≡ Known k
+    pub known : FirstSays part b k
     pub seen-is : seen ≡ seenAt (CarriedOut k)
     pub array-is : seen .array ≡ turnOf (partOf part) (regsOf kept) l b x (isHigh wp) .array
 
@@ -146,7 +152,7 @@ module _ (part : ℕ) (kept : Kept) (m : Meter) (l o b : List ℕ) (x wp : ℕ) 
         },
       )
 
-  pub carried-as : (j k : Kind) → commandOf (partOf part) (getD b 0 0) ≡ Known j → verdict ≡ CarriedOut k → verdict ≡ CarriedOut j
+  pub carried-as : (j k : Kind) → FirstSays part b j → verdict ≡ CarriedOut k → verdict ≡ CarriedOut j
   carried-as j k says e =
       let h = carried-passed (partOf part) (regsOf kept) b x (isHigh wp) k e .known in
       let q : k ≡ j = cc in

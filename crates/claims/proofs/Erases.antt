@@ -13,10 +13,9 @@ use Rattle.rules.specs.declared.Meter.{Meter}
 use Rattle.rules.specs.declared.Regs.{Regs}
 use Rattle.rules.specs.declared.Write.the-variants.{Erase}
 use Rattle.rules.specs.declared.Kind.the-variants.{Writes}
-use Rattle.rules.specs.declared.Command.the-variants.{Known}
 use Rattle.rules.specs.declared.Verdict.the-variants.{CarriedOut}
 use Rattle.rules.specs.Units.{unitStart, unitLength}
-use Rattle.rules.specs.Part.{Part, commandOf}
+use Rattle.rules.specs.Part.{Part}
 use Rattle.rules.specs.Parts.{partOf}
 use Rattle.rules.specs.Status.{regsOf}
 use Rattle.rules.specs.Cells.{erased}
@@ -25,7 +24,7 @@ use Rattle.rules.specs.Transaction.{turnOf}
 use Rattle.rules.specs.Transact.{isHigh, transactOf}
 use Rattle.laws.proofs.Sound.{Sound, unit-end, part-sound}
 use Rattle.claims.proofs.Reach.{In, written, address-inside, outside-reach, written-length}
-use Rattle.claims.proofs.Entry.{answered-0, carried-as}
+use Rattle.claims.proofs.Entry.{FirstSays, answered-0, carried-as}
 
 -- y is a byte of the unit u that holds address a
 abbrev pub InUnit : Part → EraseUnit → ℕ → ℕ → Type 0
@@ -60,7 +59,7 @@ erase-is-its-unit p sound r l b x high u long e =
 
 -- .. and so in what a caller of the entry is left with: a transaction whose first byte says an erase, and which answers 0
 pub erase-is-its-unit-lent : (part : ℕ) (kept : Kept) (m : Meter) (l o b : List ℕ) (x wp : ℕ) (u : EraseUnit)
-    → commandOf (partOf part) (getD b 0 0) ≡ Known (Writes (Erase u)) → transactOf part kept m l o b x wp .answer .number ≡ 0
+    → FirstSays part b (Writes (Erase u)) → transactOf part kept m l o b x wp .answer .number ≡ 0
     → UnitErased (partOf part) u (addressOf (partOf part) b) l (transactOf part kept m l o b x wp .array)
 erase-is-its-unit-lent part kept m l o b x wp u says n =
     let h = answered-0 part kept m l o b x wp n in

@@ -1,6 +1,6 @@
 -- What a caller of `transact` is left with after an ignored command: FF on the first n output bytes, the registers and the
 -- array that were handed in, and one more ignored on the meter.
-use mathlib.Core.Path.{_≡_, refl}
+use mathlib.Core.Path.{_≡_, refl, sym}
 use mathlib.Core.Bool.{true}
 use mathlib.Core.List.{List, _++_}
 use Prim.Native.Nat.{ℕ, _≤_}
@@ -14,6 +14,7 @@ use Rattle.rules.specs.Fm25q16.{fm25q16}
 use Rattle.rules.specs.Parts.{partOf}
 use Rattle.rules.specs.Counts.{ignoredCounted}
 use Rattle.rules.specs.Transact.{TransactSeen, transactOf}
+use Rattle.claims.proofs.Choices.{never}
 use Rattle.claims.proofs.RoundTrip.{kept-back}
 use Rattle.claims.proofs.Entry.{by-answer}
 
@@ -33,4 +34,4 @@ ignored-lent part kept m l o b x wp =
     by-answer part kept m l o b x wp (λ s. s .answer .served ≡ true → 1 ≤ s .answer .number → OneCountLent kept m l o b s)
     (λ c k e s n. absurd (omega arith))
     (λ c w e s n. record { out = refl; array = refl; regs = kept-back kept (c .begun .formed); meter = refl })
-    (λ h k s n. let c : _≡_ {A = ℕ} 0 1 = cc in absurd (omega arith))
+    (λ h k s n. never (sym s))

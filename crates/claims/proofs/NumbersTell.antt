@@ -6,7 +6,7 @@ use mathlib.Core.Logic.{_⊎_, inl, inr, ⊎-elim}
 use Prim.Native.Nat.{ℕ, zero, suc, _≤_}
 use native.Mathlib.Omega.{arith}
 use lib.Dec.{eqb}
-use lib.ListN.{length, getD}
+use lib.ListN.{length}
 use borrow.Author.Tests.{eq-eqb, eqb-false, le-leb}
 use Rattle.lists.specs.Choice.{if_then_else_, _=?_, _≤?_}
 use Rattle.lists.proofs.Choice.{either-false, by-choice}
@@ -19,9 +19,8 @@ use Rattle.rules.specs.declared.Refusal.{Refusal}
 use Rattle.rules.specs.declared.Decoded.{Decoded}
 use Rattle.rules.specs.declared.Decoded.the-variants.{Good, Bad}
 use Rattle.rules.specs.declared.Kind.{Kind}
-use Rattle.rules.specs.declared.Command.the-variants.{Known}
 use Rattle.rules.specs.Kinds.{codeOf}
-use Rattle.rules.specs.Part.{Part, commandOf}
+use Rattle.rules.specs.Part.{Part}
 use Rattle.rules.specs.Parts.{partOf}
 use Rattle.rules.specs.Status.{regsOf}
 use Rattle.rules.specs.Refusals.{refusal, accepted, _orElse_, transactRefusal, eventRefusal}
@@ -36,7 +35,7 @@ use Rattle.rules.specs.CEntries.{tbEvent, tbBill, tbTransact, tbReplay, tbTrans
 use Rattle.claims.proofs.Choices.{either-true}
 use Rattle.claims.proofs.Choices.{never}
 use Rattle.claims.proofs.Ignored.{ignored-number}
-use Rattle.claims.proofs.Entry.{by-answer, answered-0}
+use Rattle.claims.proofs.Entry.{FirstSays, by-answer, answered-0}
 
 -- ---- the statement
 
@@ -276,7 +275,7 @@ quote-served-told part s job pl =
 
 pub kind-told : (part : ℕ) (kept : Kept) (m : Meter) (l o b : List ℕ) (x wp : ℕ)
     → transactOf part kept m l o b x wp .answer .served ≡ true → transactOf part kept m l o b x wp .answer .number ≡ 0
-    → (k : Kind) × (commandOf (partOf part) (getD b 0 0) ≡ Known k) × (transactOf part kept m l o b x wp .answer .code ≡ codeOf k)
+    → (k : Kind) × FirstSays part b k × (transactOf part kept m l o b x wp .answer .code ≡ codeOf k)
 kind-told part kept m l o b x wp s n =
     let h = answered-0 part kept m l o b x wp n in
     (h .0, h .1 .known, ap (λ (w : TransactSeen). w .answer .code) (h .1 .seen-is))

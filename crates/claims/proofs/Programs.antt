@@ -14,10 +14,9 @@ use Rattle.rules.specs.declared.Meter.{Meter}
 use Rattle.rules.specs.declared.Regs.{Regs}
 use Rattle.rules.specs.declared.Write.the-variants.{Program}
 use Rattle.rules.specs.declared.Kind.the-variants.{Writes}
-use Rattle.rules.specs.declared.Command.the-variants.{Known}
 use Rattle.rules.specs.declared.Verdict.the-variants.{CarriedOut}
 use Rattle.rules.specs.Units.{page, pageStart}
-use Rattle.rules.specs.Part.{Part, commandOf}
+use Rattle.rules.specs.Part.{Part}
 use Rattle.rules.specs.Parts.{partOf}
 use Rattle.rules.specs.Status.{regsOf}
 use Rattle.rules.specs.Cells.{cell, programmed}
@@ -26,7 +25,7 @@ use Rattle.rules.specs.Transaction.{turnOf}
 use Rattle.rules.specs.Transact.{isHigh, transactOf}
 use Rattle.laws.proofs.Sound.{Sound, reach-end, part-sound}
 use Rattle.claims.proofs.Reach.{In, patched-either, written, address-inside, outside-reach}
-use Rattle.claims.proofs.Entry.{by-array, carried-as}
+use Rattle.claims.proofs.Entry.{FirstSays, by-array, carried-as}
 
 -- ---- AND only clears
 
@@ -86,7 +85,7 @@ module _ (p : Part) (sound : Sound p) (r : Regs) (l b : List ℕ) (x : ℕ) (hig
 
 -- .. and so in what a caller of the entry is left with, for any part number, registers, meter, array, output, bytes and level: of
 -- a transaction whose first byte says a program, whatever it answers (ignored or refused, it leaves the whole array)
-module _ (part : ℕ) (kept : Kept) (m : Meter) (l o b : List ℕ) (x wp : ℕ) (says : commandOf (partOf part) (getD b 0 0) ≡ Known (Writes Program)) where
+module _ (part : ℕ) (kept : Kept) (m : Meter) (l o b : List ℕ) (x wp : ℕ) (says : FirstSays part b (Writes Program)) where
   pub program-stays-in-its-page-lent : (y : ℕ) → (InPage (addressOf (partOf part) b) y → ⊥) → getD (transactOf part kept m l o b x wp .array) y 0 ≡ getD l y 0
   program-stays-in-its-page-lent y out =
       by-array part kept m l o b x wp (λ a. getD a y 0 ≡ getD l y 0)

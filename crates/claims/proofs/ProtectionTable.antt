@@ -10,7 +10,7 @@ use Rattle.lists.proofs.Choice.{both-true}
 use Rattle.rules.specs.Fm25q16.{fmSec0, fmSec1, fmArea, fmLo, fmHi, fm25q16}
 use Rattle.rules.specs.Parts.{partOf}
 use Rattle.rules.specs.Protection.{isProtected}
-use Rattle.claims.specs.ProtectionTable.{Area, none, _KB, all, bytes, BP, TB, SEC, _∣_∣_, line-0, line-1, line-2, line-3, line-4, line-5, line-6, line-7, AtTop, AtBottom, AsInTable}
+use Rattle.claims.specs.ProtectionTable.{Area, bytes, BP, TB, SEC, _∣_∣_, line-0, line-1, line-2, line-3, line-4, line-5, line-6, line-7, AtTop, AtBottom, AsInTable}
 
 -- each line's two columns are the areas that the chip's description has
 area-is : (s b : ℕ) (sec0 sec1 : Area) → s % 8 ≡ b → b ∣ sec0 ∣ sec1 → (SEC s ≡ 0 → fmArea s ≡ bytes sec0) × (SEC s ≡ 1 → fmArea s ≡ bytes sec1)
