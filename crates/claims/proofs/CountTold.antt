@@ -23,7 +23,7 @@ use Rattle.rules.specs.Counts.{meterAfter, room}
 use Rattle.rules.specs.CountEntry.{meterByAnswer, metered, countOf}
 use Rattle.rules.specs.Transaction.{turnBy, turnOf}
 use Rattle.rules.specs.Refusals.{accepted, transactRefusal}
-use Rattle.rules.specs.Transact.{AnswerTold, isHigh, transactServed, transactRefused, transactBy, transactOf}
+use Rattle.rules.specs.Transact.{AnswerTold, isHigh, transactServed, transactRefused, transactOf}
 use Rattle.laws.specs.Room.{Room}
 use Rattle.laws.proofs.Accepted.{room-had, taken}
 use Rattle.laws.proofs.CarriedOut.{carried-passed}
@@ -79,7 +79,7 @@ module _ (part : ℕ) (kept : Kept) (m : Meter) (l o b : List ℕ) (x wp : ℕ) 
   Agrees a = (recounted a .meter ≡ a .meter) × (a .served ≡ true → recounted a .number ≡ 0)
 
   pub count-agrees : Agrees (transactOf part kept m l o b x wp .answer)
-  unfolding transactOf transactBy transactServed transactRefused turnOf if_then_else_
+  unfolding transactOf transactServed transactRefused turnOf if_then_else_
   count-agrees = go (accepted z) refl
     where
       go : (t : Bool) → accepted z ≡ t

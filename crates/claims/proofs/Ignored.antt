@@ -25,7 +25,8 @@ use Rattle.rules.specs.Part.{Part, commandOf, shaped}
 use Rattle.rules.specs.Protection.{firstProtected}
 use Rattle.rules.specs.Cells.{ff}
 use Rattle.rules.specs.Writes.{reachStart, reachLength, lockedOut}
-use Rattle.rules.specs.Verdict.{ignored, addressOf, unheardAsleep, unheardBusy, protectionVerdict, writeVerdict, kindVerdict, judgeOf, verdictOf}
+use Rattle.rules.specs.Verdict.{ignored, addressOf, unheardAsleep, unheardBusy, verdictOf}
+use Rattle.laws.specs.Judged.{protectionVerdict, writeVerdict, kindVerdict, judgeOf}
 use Rattle.rules.specs.Transaction.{Turn, turnOf}
 use Rattle.rules.specs.Counts.{meterAfter}
 use Rattle.laws.proofs.CarriedOut.{by-write, turn-is}

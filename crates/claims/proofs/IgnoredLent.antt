@@ -22,7 +22,7 @@ use Rattle.rules.specs.Verdict.{verdictOf}
 use Rattle.rules.specs.Counts.{ignoredCounted}
 use Rattle.rules.specs.Transaction.{turnBy, turnOf}
 use Rattle.rules.specs.Refusals.{accepted, transactRefusal}
-use Rattle.rules.specs.Transact.{TransactSeen, isHigh, transactServed, transactRefused, transactBy, transactOf}
+use Rattle.rules.specs.Transact.{TransactSeen, isHigh, transactServed, transactRefused, transactOf}
 use Rattle.laws.proofs.Accepted.{taken}
 use Rattle.claims.proofs.RoundTrip.{kept-back}
 
@@ -37,7 +37,7 @@ pub record OneCountLent (kept : Kept) (m : Meter) (l o b : List ℕ) (s : Transa
 pub ignored-lent : (part : ℕ) (kept : Kept) (m : Meter) (l o b : List ℕ) (x wp : ℕ)
     → transactOf part kept m l o b x wp .answer .served ≡ true → 1 ≤ transactOf part kept m l o b x wp .answer .number
     → OneCountLent kept m l o b (transactOf part kept m l o b x wp)
-unfolding transactOf transactBy transactServed transactRefused turnOf if_then_else_ partOf fm25q16
+unfolding transactOf transactServed transactRefused turnOf if_then_else_ partOf fm25q16
 ignored-lent part kept m l o b x wp = go (accepted z) (verdictOf (partOf part) (regsOf kept) b x (isHigh wp)) refl
   where
     z : Refusal

@@ -22,8 +22,9 @@ use Rattle.rules.specs.Play.{State, state, play}
 use Rattle.rules.specs.Replay.{recordsRefusal, replayRefusal, replaySeen, replayOf}
 use Rattle.rules.specs.Job.{stepsOf, arrayMeant, allRegsMeant}
 use Rattle.rules.specs.JobRefusals.{jobRefusal}
-use Rattle.rules.specs.Records.{jobRecs, billOf}
-use Rattle.rules.specs.Translate.{tapeOf, translateRefusal, translateTold, translateSeen, translateBy, translateOf, quoteTold, quoteBy, quoteOf}
+use Rattle.rules.specs.Records.{jobRecs}
+use Rattle.rules.specs.Bill.{billOf}
+use Rattle.rules.specs.Translate.{tapeOf, translateRefusal, translateTold, translateSeen, translateOf, quoteTold, quoteOf}
 use Rattle.rules.specs.Ready.{Ready, Roomy}
 use Rattle.laws.proofs.Accepted.{neither}
 use Rattle.laws.proofs.JobPassed.{job-passed}
@@ -39,7 +40,7 @@ use Rattle.translate.proofs.Whole.{tape-long}
 
 -- a tape that is served is the job's tape
 served-accepted : (z : Refusal) (w buffer : List ℕ) → translateBy z w buffer .answer .served ≡ true → accepted z ≡ true
-unfolding translateBy if_then_else_
+unfolding if_then_else_
 served-accepted z w buffer e = go (accepted z) e
   where
     go : (t : Bool) → (if t then translateSeen (translateTold (Written (length w))) (w ++ drop (length w) buffer) else translateSeen (translateTold (Refused z)) buffer) .answer .served ≡ true → t ≡ true
@@ -47,11 +48,11 @@ served-accepted z w buffer e = go (accepted z) e
     go false q = q
 
 accepted-written : (z : Refusal) (w buffer : List ℕ) → accepted z ≡ true → take (translateBy z w buffer .answer .length) (translateBy z w buffer .tape) ≡ w
-unfolding translateBy if_then_else_
+unfolding if_then_else_
 accepted-written z w buffer e = rw e (take-append-seam w (drop (length w) buffer))
 
 quote-bill : (z : Refusal) (b : Bill) → z .number ≡ 0 → quoteBy z b .bill ≡ b
-unfolding quoteBy if_then_else_
+unfolding if_then_else_
 quote-bill z b e = ap (λ (t : Bool). (if t then quoteTold (Billed b) else quoteTold (Q.Refused z)) .bill) (eq-eqb (z .number) 0 e)
 
 module _ (part s : ℕ) (job payload buffer : List ℕ) (served : translateOf part s job payload buffer .answer .served ≡ true) where

@@ -22,7 +22,8 @@ use Rattle.rules.specs.Parts.{isPart, partOf}
 use Rattle.rules.specs.Protection.{isProtected, firstProtected}
 use Rattle.rules.specs.Job.{settingLimit, stepAt, stepCount}
 use Rattle.rules.specs.Refusals.{refusal, refusalAt, _orElse_}
-use Rattle.rules.specs.JobRefusals.{unfit, outside, beyond, stepStart, stepReach, wasFound, shielded, stepNumber, decodedNumber, stepsRefusal, jobRefusal}
+use Rattle.rules.specs.JobRefusals.{unfit, outside, beyond, stepStart, stepReach, shielded, stepNumber, decodedNumber, stepsRefusal, jobRefusal}
+use Rattle.rules.specs.Protection.{wasFound}
 use Rattle.job.specs.Carried.{settingAt}
 
 -- ---- the statement

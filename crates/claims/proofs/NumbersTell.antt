@@ -29,14 +29,14 @@ use Rattle.rules.specs.Status.{regsOf}
 use Rattle.rules.specs.Verdict.{verdictTold, verdictOf}
 use Rattle.rules.specs.Transaction.{turnBy, turnOf}
 use Rattle.rules.specs.Refusals.{refusal, accepted, _orElse_, transactRefusal, eventRefusal}
-use Rattle.rules.specs.Transact.{TransactSeen, isHigh, transactServed, transactRefused, transactBy, transactOf}
+use Rattle.rules.specs.Transact.{TransactSeen, isHigh, transactServed, transactRefused, transactOf}
 use Rattle.rules.specs.EventEntries.{EventTold, eventBy, finishOf, powerCycleOf}
 use Rattle.rules.specs.Tape.{firstBad}
-use Rattle.rules.specs.Replay.{badRecord, recordsRefusal, replayRefusal, ReplaySeen, replayServed, replayRefused, replayBy, replayFirstOf, replayOf}
+use Rattle.rules.specs.Replay.{badRecord, recordsRefusal, replayRefusal, ReplaySeen, replayServed, replayRefused, replayFirstOf, replayOf}
 use Rattle.rules.specs.Job.{stepAt, stepCount}
 use Rattle.rules.specs.JobRefusals.{stepNumber, decodedNumber, settingAfter, stepsRefusal, jobRefusal}
-use Rattle.rules.specs.Translate.{translateRefusal, TranslateSeen, translateBy, translateOf, BillTold, quoteBy, quoteOf}
-use Rattle.rules.specs.CEntries.{tbEvent, tbBill, tbTransact, tbReplay, tbTranslate}
+use Rattle.rules.specs.Translate.{translateRefusal, TranslateSeen, translateOf, BillTold, quoteOf}
+use Rattle.tunebriar.specs.CEntries.{tbEvent, tbBill, tbTransact, tbReplay, tbTranslate}
 use Rattle.laws.proofs.CarriedOut.{carried-passed}
 use Rattle.claims.proofs.Choices.{either-true}
 use Rattle.claims.proofs.Ignored.{ignored-number}
@@ -123,7 +123,7 @@ transact-row part al kept n x ol m =
 
 pub transact-number-tells : (part : ℕ) (kept : Kept) (m : Meter) (l o b : List ℕ) (x wp : ℕ)
     → Tells VerdictNumber (1 ∷ 2 ∷ 3 ∷ 4 ∷ 5 ∷ 6 ∷ 7 ∷ []) (transactOf part kept m l o b x wp .answer .served) (transactOf part kept m l o b x wp .answer .number)
-unfolding transactOf transactBy transactServed transactRefused turnOf
+unfolding transactOf transactServed transactRefused turnOf
 transact-number-tells part kept m l o b x wp =
     tells (λ (s : TransactSeen). s .answer .served) (λ (s : TransactSeen). s .answer .number) VerdictNumber (1 ∷ 2 ∷ 3 ∷ 4 ∷ 5 ∷ 6 ∷ 7 ∷ [])
     (transactRefusal part (length l) kept (length b) x (length o) m) _ _ refl
@@ -161,7 +161,7 @@ replay-row part al kept m t =
 
 pub replay-first-number-tells : (part : ℕ) (kept : Kept) (m : Meter) (l t : List ℕ) (k : ℕ)
     → Tells Zero (1 ∷ 2 ∷ 3 ∷ 30 ∷ 31 ∷ 7 ∷ []) (replayFirstOf part kept m l t k .answer .served) (replayFirstOf part kept m l t k .answer .number)
-unfolding replayFirstOf replayBy replayServed replayRefused
+unfolding replayFirstOf replayServed replayRefused
 replay-first-number-tells part kept m l t k =
     tells (λ (s : ReplaySeen). s .answer .served) (λ (s : ReplaySeen). s .answer .number) Zero (1 ∷ 2 ∷ 3 ∷ 30 ∷ 31 ∷ 7 ∷ [])
     (replayRefusal part (length l) kept m t) _ _ refl refl refl refl (replay-row part (length l) kept m t)
@@ -193,7 +193,7 @@ job-row part s job pl =
 
 pub translate-number-tells : (part s : ℕ) (job payload tape : List ℕ)
     → Tells Zero (1 ∷ 20 ∷ 21 ∷ 22 ∷ 23 ∷ 24 ∷ 25 ∷ 26 ∷ []) (translateOf part s job payload tape .answer .served) (translateOf part s job payload tape .answer .number)
-unfolding translateOf translateBy translateRefusal
+unfolding translateOf translateRefusal
 translate-number-tells part s job payload tape =
     tells (λ (w : TranslateSeen). w .answer .served) (λ (w : TranslateSeen). w .answer .number) Zero (1 ∷ 20 ∷ 21 ∷ 22 ∷ 23 ∷ 24 ∷ 25 ∷ 26 ∷ [])
     (translateRefusal part s job payload (length tape)) _ _ refl refl refl refl
@@ -202,7 +202,7 @@ translate-number-tells part s job payload tape =
 
 pub quote-number-tells : (part s : ℕ) (job : List ℕ) (pl : ℕ)
     → Tells Zero (1 ∷ 20 ∷ 21 ∷ 22 ∷ 23 ∷ 24 ∷ 25 ∷ []) (quoteOf part s job pl .served) (quoteOf part s job pl .number)
-unfolding quoteOf quoteBy
+unfolding quoteOf
 quote-number-tells part s job pl =
     tells (λ (t : BillTold). t .served) (λ (t : BillTold). t .number) Zero (1 ∷ 20 ∷ 21 ∷ 22 ∷ 23 ∷ 24 ∷ 25 ∷ [])
     (jobRefusal part s job pl) _ _ refl refl refl refl (job-row part s job pl)
@@ -281,7 +281,7 @@ quote-served-told part s job pl =
 pub kind-told : (part : ℕ) (kept : Kept) (m : Meter) (l o b : List ℕ) (x wp : ℕ)
     → transactOf part kept m l o b x wp .answer .served ≡ true → transactOf part kept m l o b x wp .answer .number ≡ 0
     → (k : Kind) × (commandOf (partOf part) (getD b 0 0) ≡ Known k) × (transactOf part kept m l o b x wp .answer .code ≡ codeOf k)
-unfolding transactOf transactBy transactServed transactRefused turnOf if_then_else_
+unfolding transactOf transactServed transactRefused turnOf if_then_else_
 kind-told part kept m l o b x wp = go (accepted z) (verdictOf (partOf part) (regsOf kept) b x (isHigh wp)) refl
   where
     z : Refusal

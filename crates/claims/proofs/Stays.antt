@@ -24,7 +24,7 @@ use Rattle.rules.specs.Writes.{reachStart, reachLength, arrayWritten}
 use Rattle.rules.specs.Verdict.{addressOf, verdictOf}
 use Rattle.rules.specs.Transaction.{arrayAfter, turnOf}
 use Rattle.rules.specs.Refusals.{accepted, transactRefusal}
-use Rattle.rules.specs.Transact.{isHigh, transactServed, transactRefused, transactBy, transactOf}
+use Rattle.rules.specs.Transact.{isHigh, transactServed, transactRefused, transactOf}
 use Rattle.laws.proofs.Accepted.{taken}
 use Rattle.laws.proofs.Sound.{Sound, part-sound}
 use Rattle.laws.proofs.Protection.{none-protected}
@@ -61,7 +61,7 @@ protected-byte-stays p sound r l b x high long y h = stays-at p sound r l b x hi
 pub protected-byte-stays-lent : (part : ℕ) (kept : Kept) (m : Meter) (l o b : List ℕ) (x wp : ℕ)
     → (y : ℕ) → isProtected (partOf part) (regsOf kept .setting) y ≡ true
     → getD (transactOf part kept m l o b x wp .array) y 0 ≡ getD l y 0
-unfolding transactOf transactBy transactServed transactRefused if_then_else_
+unfolding transactOf transactServed transactRefused if_then_else_
 protected-byte-stays-lent part kept m l o b x wp y h = go (accepted z) refl
   where
     z : Refusal

@@ -17,7 +17,8 @@ use Rattle.rules.specs.Kinds.{codeOf, ofWrite, ofKnown}
 use Rattle.rules.specs.Part.{Part, shaped}
 use Rattle.rules.specs.Status.{withWel, withBusy}
 use Rattle.rules.specs.Writes.{reachStart, reachLength, locked, lockedOut, regsWritten, arrayWritten}
-use Rattle.rules.specs.Verdict.{addressOf, unheardAsleep, unheardBusy, writeVerdict, kindVerdict, judgeOf, verdictOf}
+use Rattle.rules.specs.Verdict.{addressOf, unheardAsleep, unheardBusy, verdictOf}
+use Rattle.laws.specs.Judged.{writeVerdict, kindVerdict, judgeOf}
 use Rattle.rules.specs.Transaction.{turnOf}
 use Rattle.rules.specs.Counts.{counted}
 use Rattle.rules.specs.Events.{finished}

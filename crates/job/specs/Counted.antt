@@ -10,7 +10,7 @@ use Rattle.rules.specs.declared.Decoded.the-variants.{Good, Bad}
 use Rattle.rules.specs.declared.Bill.{Bill}
 use Rattle.rules.specs.Job.{stepAt, stepCount}
 use Rattle.rules.specs.JobRefusals.{jobLimit, layLimit}
-use Rattle.rules.specs.Records.{tapeLength, stepBill, noBill}
+use Rattle.rules.specs.Bill.{tapeLength, stepBill, noBill}
 
 -- where three address bytes end
 abbrev pub addressEnd : ℕ

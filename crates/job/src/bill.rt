@@ -10,7 +10,7 @@ ghost use mathlib.Core.Path.{_≡_};
 ghost use Prim.Native.Nat.{_≤_, _<_};
 ghost use Rattle.rules.specs.Job.{stepAt, stepCount, stepsOf};
 ghost use Rattle.rules.specs.JobRefusals.{jobLimit};
-ghost use Rattle.rules.specs.Records.{pagesTouched, stepBill, noBill, _plus_, billOf};
+ghost use Rattle.rules.specs.Bill.{pagesTouched, stepBill, noBill, _plus_, billOf};
 ghost use Rattle.job.specs.Counted.{pageLimit, Short, Billable, Counted, Upto, decodedBill};
 
 // The bytes of three records: 06, a write, a finish.

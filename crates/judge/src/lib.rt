@@ -17,7 +17,8 @@ ghost use Rattle.rules.specs.Parts.{partOf};
 ghost use Rattle.rules.specs.Units.{unitStart, unitLength};
 ghost use Rattle.rules.specs.Protection.{firstProtected};
 ghost use Rattle.rules.specs.Writes.{reachStart, reachLength, locked, lockedOut};
-ghost use Rattle.rules.specs.Verdict.{ignored, addressOf, unheardAsleep, unheardBusy, protectionVerdict, writeVerdict, kindVerdict, judgeOf, verdictOf};
+ghost use Rattle.rules.specs.Verdict.{ignored, addressOf, unheardAsleep, unheardBusy, verdictOf};
+ghost use Rattle.laws.specs.Judged.{protectionVerdict, writeVerdict, kindVerdict, judgeOf};
 
 // ---- where a write reaches
 

@@ -13,7 +13,8 @@ use Rattle.rules.specs.Part.{Part}
 use Rattle.rules.specs.Tape.{Rec}
 use Rattle.rules.specs.Job.{stepAt, stepCount}
 use Rattle.rules.specs.JobRefusals.{jobLimit}
-use Rattle.rules.specs.Records.{pagesTouched, stepRecs}
+use Rattle.rules.specs.Records.{stepRecs}
+use Rattle.rules.specs.Bill.{pagesTouched}
 use Rattle.job.specs.Counted.{Short}
 
 pub record Writable (p : Part) (payload : List ℕ) (w : Step) : Type 0 where
