@@ -12,11 +12,15 @@ pub const BLOCK_64: usize = 65536;
 
 pub const TRANSACTION_LIMIT: usize = 4096;
 
+pub const LEFTOVER_LIMIT: u32 = 7;
+
 pub const COUNT_LIMIT: usize = 4294967295;
 
 pub const RECORD_LENGTH: usize = 264;
 
 pub const SENT_LIMIT: usize = 260;
+
+pub const COMMAND_LENGTH: usize = 792;
 
 pub const STEP_LENGTH: usize = 16;
 
@@ -25,6 +29,8 @@ pub const JOB_LIMIT: usize = 64;
 pub const PAYLOAD_LIMIT: usize = 65536;
 
 pub const LAY_LIMIT: usize = 4096;
+
+pub const SETTING_LIMIT: u32 = 31;
 
 pub const LISTING_LIMIT: usize = 65472;
 

@@ -9,7 +9,6 @@ use rules::Transacted;
 use rules::Translated;
 use rules::Verdict;
 ghost use mathlib.Core.Path.{_≡_};
-ghost use Rattle.rules.specs.Status.{flag};
 ghost use Rattle.rules.specs.Verdict.{verdictTold};
 ghost use Rattle.rules.specs.Transact.{transactTold, transactOf};
 ghost use Rattle.rules.specs.EventEntries.{eventTold, finishOf, powerCycleOf};
@@ -233,7 +232,7 @@ fn found_record(found: AtPlace, next: u64) -> TbRecord
             number: 0,
             length: (s.length % 65536) as u32,
             leftover: s.leftover as u32,
-            wp: level(s.high),
+            wp: regs::flag_of(s.high),
             start: s.start as u64,
             next: next,
         },
@@ -242,12 +241,6 @@ fn found_record(found: AtPlace, next: u64) -> TbRecord
         AtPlace::End => plain(3, 0, next),
         AtPlace::Fault(n) => plain(4, n as u32, next),
     }
-}
-
-fn level(high: bool) -> u32
-    ensures { λ n. ⌜ n ≡ flag high ⌝ }
-{
-    if high { 1 } else { 0 }
 }
 
 // An answer that is no transaction.

@@ -18,7 +18,7 @@ returns c = rw (← c .before .job-refusal .ensures, ne-eqb _ _ (c .if1 .taken))
 bill-of-requires : tie.Need-bill-of-requires
 bill-of-requires c κs =
     let a = c .before .before .before .args in
-    accepted-counted (a .part) (a .s) (a .job .now) (a .payload-length) (sym (ap (λ (z : Refusal). z .number) (c .before .job-refusal .ensures)) ∙ c .if1 .left)
+    accepted-counted (a .part) (a .setting) (a .job .now) (a .payload-length) (sym (ap (λ (z : Refusal). z .number) (c .before .job-refusal .ensures)) ∙ c .if1 .left)
 
 returns-2 : tie.Need-returns-2
 unfolding quoteOf if_then_else_
