@@ -18,7 +18,8 @@ use Rattle.rules.specs.Play.{State, state, play}
 use Rattle.rules.specs.Replay.{recordsRefusal, replayRefusal, replaySeen, replayOf}
 use Rattle.rules.specs.Job.{stepsOf, arrayMeant, allRegsMeant}
 use Rattle.rules.specs.JobRefusals.{jobRefusal}
-use Rattle.rules.specs.Records.{jobRecs, billOf}
+use Rattle.rules.specs.Records.{jobRecs}
+use Rattle.rules.specs.Bill.{billOf}
 use Rattle.rules.specs.Translate.{tapeOf, translateOf, BillTold}
 use Rattle.rules.specs.Ready.{Ready, Roomy}
 use Rattle.laws.proofs.JobPassed.{job-passed}

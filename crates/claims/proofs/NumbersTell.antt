@@ -25,13 +25,14 @@ use Rattle.rules.specs.Parts.{partOf}
 use Rattle.rules.specs.Status.{regsOf}
 use Rattle.rules.specs.Refusals.{refusal, accepted, _orElse_, transactRefusal, eventRefusal}
 use Rattle.rules.specs.Transact.{TransactSeen, isHigh, transactOf}
-use Rattle.rules.specs.EventEntries.{EventTold, eventBy, finishOf, powerCycleOf}
+use Rattle.rules.specs.Events.{finished, powerCycled}
+use Rattle.rules.specs.EventEntries.{EventTold, eventOf, finishOf, powerCycleOf}
 use Rattle.rules.specs.Tape.{firstBad}
-use Rattle.rules.specs.Replay.{badRecord, recordsRefusal, replayRefusal, ReplaySeen, replayServed, replayRefused, replayBy, replayFirstOf, replayOf}
+use Rattle.rules.specs.Replay.{badRecord, recordsRefusal, replayRefusal, ReplaySeen, replayServed, replayRefused, replayFirstOf, replayOf}
 use Rattle.rules.specs.Job.{stepAt, stepCount}
 use Rattle.rules.specs.JobRefusals.{stepNumber, decodedNumber, settingAfter, stepsRefusal, jobRefusal}
-use Rattle.rules.specs.Translate.{translateRefusal, TranslateSeen, translateBy, translateOf, BillTold, quoteBy, quoteOf}
-use Rattle.rules.specs.CEntries.{tbEvent, tbBill, tbTransact, tbReplay, tbTranslate}
+use Rattle.rules.specs.Translate.{translateRefusal, TranslateSeen, translateOf, BillTold, quoteOf}
+use Rattle.tunebriar.specs.CEntries.{tbEvent, tbBill, tbTransact, tbReplay, tbTranslate}
 use Rattle.claims.proofs.Choices.{either-true}
 use Rattle.claims.proofs.Choices.{never}
 use Rattle.claims.proofs.Ignored.{ignored-number}
@@ -126,20 +127,20 @@ transact-number-tells part kept m l o b x wp =
 
 -- ---- finish and power cycle: 0 against 1 and 3
 
-event-tells : (part : ℕ) (kept : Kept) (r : Regs)
-    → Tells Zero (1 ∷ 3 ∷ []) (eventBy (eventRefusal part kept) kept r .served) (eventBy (eventRefusal part kept) kept r .number)
-unfolding eventBy eventRefusal
-event-tells part kept r =
+event-tells : (part : ℕ) (kept : Kept) (makes : Regs → Regs)
+    → Tells Zero (1 ∷ 3 ∷ []) (eventOf part kept makes .served) (eventOf part kept makes .number)
+unfolding eventOf eventRefusal
+event-tells part kept makes =
     tells (λ (t : EventTold). t .served) (λ (t : EventTold). t .number) Zero (1 ∷ 3 ∷ []) (eventRefusal part kept) _ _ refl refl refl refl
     (check num _ (refusal 1) _ _ (check num _ (refusal 3) _ _ no-refusal))
 
 pub finish-number-tells : (part : ℕ) (kept : Kept) → Tells Zero (1 ∷ 3 ∷ []) (finishOf part kept .served) (finishOf part kept .number)
 unfolding finishOf
-finish-number-tells part kept = event-tells part kept _
+finish-number-tells part kept = event-tells part kept finished
 
 pub power-cycle-number-tells : (part : ℕ) (kept : Kept) → Tells Zero (1 ∷ 3 ∷ []) (powerCycleOf part kept .served) (powerCycleOf part kept .number)
 unfolding powerCycleOf
-power-cycle-number-tells part kept = event-tells part kept _
+power-cycle-number-tells part kept = event-tells part kept powerCycled
 
 -- ---- replay, of all records or of the first k: 0 against 1, 2, 3, 30, 31 and 7
 
@@ -156,7 +157,7 @@ replay-row part al kept m t =
 
 pub replay-first-number-tells : (part : ℕ) (kept : Kept) (m : Meter) (l t : List ℕ) (k : ℕ)
     → Tells Zero (1 ∷ 2 ∷ 3 ∷ 30 ∷ 31 ∷ 7 ∷ []) (replayFirstOf part kept m l t k .answer .served) (replayFirstOf part kept m l t k .answer .number)
-unfolding replayFirstOf replayBy replayServed replayRefused
+unfolding replayFirstOf replayServed replayRefused
 replay-first-number-tells part kept m l t k =
     tells (λ (s : ReplaySeen). s .answer .served) (λ (s : ReplaySeen). s .answer .number) Zero (1 ∷ 2 ∷ 3 ∷ 30 ∷ 31 ∷ 7 ∷ [])
     (replayRefusal part (length l) kept m t) _ _ refl refl refl refl (replay-row part (length l) kept m t)
@@ -188,7 +189,7 @@ job-row part s job pl =
 
 pub translate-number-tells : (part s : ℕ) (job payload tape : List ℕ)
     → Tells Zero (1 ∷ 20 ∷ 21 ∷ 22 ∷ 23 ∷ 24 ∷ 25 ∷ 26 ∷ []) (translateOf part s job payload tape .answer .served) (translateOf part s job payload tape .answer .number)
-unfolding translateOf translateBy translateRefusal
+unfolding translateOf translateRefusal
 translate-number-tells part s job payload tape =
     tells (λ (w : TranslateSeen). w .answer .served) (λ (w : TranslateSeen). w .answer .number) Zero (1 ∷ 20 ∷ 21 ∷ 22 ∷ 23 ∷ 24 ∷ 25 ∷ 26 ∷ [])
     (translateRefusal part s job payload (length tape)) _ _ refl refl refl refl
@@ -197,7 +198,7 @@ translate-number-tells part s job payload tape =
 
 pub quote-number-tells : (part s : ℕ) (job : List ℕ) (pl : ℕ)
     → Tells Zero (1 ∷ 20 ∷ 21 ∷ 22 ∷ 23 ∷ 24 ∷ 25 ∷ []) (quoteOf part s job pl .served) (quoteOf part s job pl .number)
-unfolding quoteOf quoteBy
+unfolding quoteOf
 quote-number-tells part s job pl =
     tells (λ (t : BillTold). t .served) (λ (t : BillTold). t .number) Zero (1 ∷ 20 ∷ 21 ∷ 22 ∷ 23 ∷ 24 ∷ 25 ∷ [])
     (jobRefusal part s job pl) _ _ refl refl refl refl (job-row part s job pl)

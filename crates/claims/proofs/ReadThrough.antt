@@ -10,7 +10,8 @@ use borrow.Author.Tests.{le-leb, leb-true, leb-false}
 use denote.Ref.{now}
 use Rattle.lists.specs.Choice.{if_then_else_}
 use Rattle.rules.specs.declared.AtPlace.the-variants.{Transaction, Finish, PowerCycle, End}
-use Rattle.rules.specs.Tape.{kindAt, sentAt, recAt, records, whole, goodRecord, readAt, nextPlace}
+use Rattle.rules.specs.Tape.{kindAt, recAt, records, whole, goodRecord}
+use Rattle.rules.specs.Reading.{sentAt, readAt, nextPlace}
 use Rattle.tape.specs.declared.Reader.{Reader}
 use Rattle.tape.specs.Record.{saidAt, recOf}
 use Rattle.tape.specs.Moves.{found, after}

@@ -17,9 +17,9 @@ use Rattle.rules.specs.declared.Step.the-variants.{EraseAt, Lay, Guard}
 use Rattle.rules.specs.declared.Decoded.{Decoded}
 use Rattle.rules.specs.declared.Decoded.the-variants.{Good, Bad}
 use Rattle.rules.specs.Part.{Part}
-use Rattle.rules.specs.Protection.{isProtected, firstProtected}
+use Rattle.rules.specs.Protection.{isProtected, firstProtected, wasFound, someProtected}
 use Rattle.rules.specs.Job.{stepAt}
-use Rattle.rules.specs.JobRefusals.{layLimit, chipNotAtZero, outside, beyond, stepStart, stepReach, wasFound, shielded, stepNumber, decodedNumber}
+use Rattle.rules.specs.JobRefusals.{layLimit, chipNotAtZero, outside, beyond, stepStart, stepReach, shielded, stepNumber, decodedNumber}
 use Rattle.laws.proofs.Protection.{none-protected}
 use Rattle.laws.proofs.JobPassed.{step-bare}
 use Rattle.claims.specs.TurnedAway.{Says, Outside, Beyond, Touches, Shielded, Wrong, for-22, for-23, for-24, for-25}
@@ -54,7 +54,7 @@ touches-is p (Lay s) y = (λ h. h, λ h. h)
 touches-is p (Guard g) y = (λ h. absurd h, λ h. omega arith)
 
 shielded-is : (p : Part) (s : ℕ) (w : Step) → shielded p s w ≡ true ↔ Shielded p s w
-unfolding shielded firstProtected
+unfolding shielded someProtected firstProtected
 shielded-is p s w = (λ e. found (firstProtected p s (stepStart w) (stepReach p w)) refl e, λ h. back (shielded p s w) refl h)
   where
     found : (f : Found) → firstProtected p s (stepStart w) (stepReach p w) ≡ f → wasFound f ≡ true → Shielded p s w

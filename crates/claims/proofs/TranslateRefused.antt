@@ -13,7 +13,7 @@ use Rattle.rules.specs.declared.Quoted.the-variants.{Refused}
 use Rattle.rules.specs.Parts.{partOf}
 use Rattle.rules.specs.Refusals.{refusalAt, accepted}
 use Rattle.rules.specs.JobRefusals.{jobRefusal}
-use Rattle.rules.specs.Records.{noBill}
+use Rattle.rules.specs.Bill.{noBill}
 use Rattle.rules.specs.Translate.{tapeOf, TranslateSeen, translateSeen, translateOf, BillTold, quoteTold, quoteOf}
 use Rattle.translate.proofs.Answer.{translate-refused, translate-small}
 use Rattle.translate.proofs.Whole.{tape-long}

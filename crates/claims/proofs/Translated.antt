@@ -13,8 +13,8 @@ use Rattle.rules.specs.Parts.{partOf}
 use Rattle.rules.specs.Refusals.{refusal, accepted}
 use Rattle.rules.specs.Job.{stepsOf}
 use Rattle.rules.specs.JobRefusals.{jobRefusal}
-use Rattle.rules.specs.Records.{billOf}
-use Rattle.rules.specs.Translate.{tapeOf, TranslateSeen, translateTold, translateSeen, translateOf, quoteTold, quoteBy, quoteOf}
+use Rattle.rules.specs.Bill.{billOf}
+use Rattle.rules.specs.Translate.{tapeOf, TranslateSeen, translateTold, translateSeen, translateOf, quoteTold, quoteOf}
 use Rattle.translate.proofs.Answer.{translate-refused, translate-small, translate-served}
 
 module _ (part s : ℕ) (job payload buffer : List ℕ) where
@@ -47,9 +47,9 @@ module _ (part s : ℕ) (job payload buffer : List ℕ) where
 
 module _ (part s : ℕ) (job : List ℕ) (payloadLength : ℕ) where
   pub quote-billed : jobRefusal part s job payloadLength .number ≡ 0 → quoteOf part s job payloadLength ≡ quoteTold (Q.Billed (billOf (stepsOf job)))
-  unfolding quoteOf quoteBy if_then_else_
+  unfolding quoteOf if_then_else_
   quote-billed e = rw (eq-eqb _ 0 e)
 
   pub quote-refused : (jobRefusal part s job payloadLength .number ≡ 0 → ⊥) → quoteOf part s job payloadLength ≡ quoteTold (Q.Refused (jobRefusal part s job payloadLength))
-  unfolding quoteOf quoteBy if_then_else_
+  unfolding quoteOf if_then_else_
   quote-refused h = rw (ne-eqb _ 0 h)

@@ -13,7 +13,7 @@ use Rattle.rules.specs.declared.Step.{Step}
 use Rattle.rules.specs.declared.Step.the-variants.{EraseAt, Lay, Guard}
 use Rattle.rules.specs.Fm25q16.{fmSec0, fmSec1, fmArea, fmLo, fmHi, fm25q16}
 use Rattle.rules.specs.Parts.{isPart, partOf}
-use Rattle.rules.specs.Protection.{isProtected, firstProtected}
+use Rattle.rules.specs.Protection.{isProtected, firstProtected, someProtected}
 use Rattle.rules.specs.Status.{regsOf, statusOf, keptOf, wellFormed}
 use Rattle.rules.specs.Cells.{erased}
 use Rattle.rules.specs.Counts.{room}
@@ -21,7 +21,7 @@ use Rattle.rules.specs.Refusals.{_orElse_}
 use Rattle.rules.specs.Replay.{ReplaySeen, replayOf}
 use Rattle.rules.specs.Job.{unitBy, decodedErase, decodedLay, decodedGuard, decodedAt, stepsFrom, stepsOf, laid, arrayMeant, allRegsMeant}
 use Rattle.rules.specs.JobRefusals.{unfit, shielded, stepNumber, stepsRefusal, jobRefusal}
-use Rattle.rules.specs.Records.{billOf}
+use Rattle.rules.specs.Bill.{billOf}
 use Rattle.rules.specs.Translate.{tapeOf, TranslateSeen, translateOf, BillTold}
 use Rattle.rules.specs.Ready.{Ready, Roomy}
 use Rattle.demand.specs.Raised.{raised}
@@ -41,7 +41,7 @@ unfolding job stepsFrom decodedAt decodedErase decodedLay decodedGuard unitBy ev
 steps-are = refl
 
 unrefused : jobRefusal 1 0 job (length payload) .number ≡ 0
-unfolding job jobRefusal isPart unfit stepsRefusal _orElse_ stepNumber shielded firstProtected firstIn isProtected partOf fm25q16 fmLo fmHi fmArea fmSec0 fmSec1 decodedAt decodedErase decodedLay decodedGuard unitBy everyIn if_then_else_
+unfolding job jobRefusal isPart unfit stepsRefusal _orElse_ stepNumber shielded someProtected firstProtected firstIn isProtected partOf fm25q16 fmLo fmHi fmArea fmSec0 fmSec1 decodedAt decodedErase decodedLay decodedGuard unitBy everyIn if_then_else_
 unrefused = refl
 
 bill-is : billOf (stepsOf job) ≡ record { programs = 2; erases = 1; «register_writes» = 1; length = 3168 }

@@ -9,7 +9,8 @@ use Rattle.lists.specs.declared.Found.the-variants.{At, Nothing}
 use Rattle.rules.specs.declared.AtPlace.{AtPlace}
 use Rattle.rules.specs.declared.AtPlace.the-variants.{Transaction, Finish, PowerCycle, End, Fault}
 use Rattle.rules.specs.declared.Sent.{Sent}
-use Rattle.rules.specs.Tape.{whole, firstBad, records, readAt}
+use Rattle.rules.specs.Tape.{whole, firstBad, records}
+use Rattle.rules.specs.Reading.{readAt}
 
 -- "a tape of up to 65,472 bytes (more is 30)"
 abbrev pub listingLimit : ℕ

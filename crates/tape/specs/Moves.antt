@@ -1,7 +1,7 @@
 -- What a reader's read answers, and the reader after it.
 use denote.Ref.{now}
 use Rattle.rules.specs.declared.AtPlace.{AtPlace}
-use Rattle.rules.specs.Tape.{readAt, nextPlace}
+use Rattle.rules.specs.Reading.{readAt, nextPlace}
 use Rattle.tape.specs.declared.Reader.{Reader}
 
 abbrev pub found : Reader → AtPlace

@@ -11,8 +11,9 @@ use Rattle.rules.specs.declared.AtPlace.{AtPlace}
 use Rattle.rules.specs.declared.AtPlace.the-variants.{Transaction, Finish, PowerCycle, End, Fault}
 use Rattle.rules.specs.declared.Sent.{Sent}
 use Rattle.rules.specs.Status.{flag}
-use Rattle.rules.specs.Tape.{whole, records, kindAt, goodRecord, sentAt, readAt, nextPlace, readTold}
-use Rattle.rules.specs.CEntries.{tbRecord}
+use Rattle.rules.specs.Tape.{whole, records, kindAt, goodRecord}
+use Rattle.rules.specs.Reading.{sentAt, readAt, nextPlace, readTold}
+use Rattle.tunebriar.specs.CEntries.{tbRecord}
 use Rattle.tape.proofs.Good.{good-short}
 use Rattle.tunebriar.specs.Found.{tbFound}
 

@@ -2,7 +2,7 @@
 use Prim.Native.Nat.{ℕ, _%_}
 use Rattle.rules.specs.declared.AtPlace.{AtPlace}
 use Rattle.rules.specs.declared.AtPlace.the-variants.{Transaction, Finish, PowerCycle, End, Fault}
-use Rattle.rules.specs.declared.TbRecord.{TbRecord}
+use Rattle.tunebriar.specs.declared.TbRecord.{TbRecord}
 use Rattle.rules.specs.Status.{flag}
 
 abbrev pub tbPlain : ℕ → ℕ → ℕ → TbRecord

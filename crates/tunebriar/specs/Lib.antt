@@ -1,1 +1,2 @@
+pub mod CEntries
 pub mod Found

@@ -1,6 +1,6 @@
 use mathlib.Core.Path.{ap, _∙_}
 use native.Mathlib.Omega.{arith}
-use Rattle.rules.specs.Tape.{nextPlace}
+use Rattle.rules.specs.Reading.{nextPlace}
 use Rattle.tape.proofs.Said.{next-fits}
 use borrow.Author.Needs.{needs}
 use Rattle.tape.proofs.reading_at.Statement.{statement}

@@ -18,7 +18,7 @@ use Rattle.translate.proofs.translate.Statement.{statement}
 use Rattle.translate.proofs.translate.Tie as tie
 
 -- nothing is refused
-ok : (c : tie.Else1) → let a = c .before .before .before .before .before .args in jobRefusal (a .part) (a .s) (a .job .now) (length (a .payload .now)) .number ≡ 0
+ok : (c : tie.Else1) → let a = c .before .before .before .before .before .args in jobRefusal (a .part) (a .setting) (a .job .now) (length (a .payload .now)) .number ≡ 0
 ok c = sym (ap (λ (z : Refusal). z .number) (c .before .job-refusal .ensures)) ∙ c .if1 .left
 
 job-refusal-requires : tie.Need-job-refusal-requires
@@ -33,15 +33,15 @@ bill-of-requires c κs = accepted-counted _ _ _ _ (ok c)
 returns-2 : tie.Need-returns-2
 returns-2 c =
     let a = c .before .before .before .before .before .before .before .args in
-    let n = ap (λ (b : Bill). b .length) (c .before .bill-of .ensures) ∙ sym (tape-long (a .part) (a .s) (a .job .now) (a .payload .now) (ok (c .before .before))) in
-    translate-small (a .part) (a .s) (a .job .now) (a .payload .now) (a .tape .now) (ok (c .before .before)) (omega (arith, n, c .if2 .taken))
+    let n = ap (λ (b : Bill). b .length) (c .before .bill-of .ensures) ∙ sym (tape-long (a .part) (a .setting) (a .job .now) (a .payload .now) (ok (c .before .before))) in
+    translate-small (a .part) (a .setting) (a .job .now) (a .payload .now) (a .tape .now) (ok (c .before .before)) (omega (arith, n, c .if2 .taken))
 
 put-steps-requires : tie.Need-put-steps-requires
 put-steps-requires c κs =
     let a = c .before .before .before .before .before .before .before .before .args in
     let n = ap (λ (b : Bill). b .length) (c .before .before .bill-of .ensures) in
     let f = recs-long (partOf (a .part)) (a .payload .now) (stepsOf (a .job .now)) in
-    (writable (a .part) (a .s) (a .job .now) (a .payload .now) (ok (c .before .before .before)), record { fits = omega (arith, n, f, c .before .if2 .left) })
+    (writable (a .part) (a .setting) (a .job .now) (a .payload .now) (ok (c .before .before .before)), record { fits = omega (arith, n, f, c .before .if2 .left) })
 
 same-length : tie.Need-same-length
 same-length c = search needs
@@ -51,9 +51,9 @@ unfolding tapeOf
 returns-3 c =
     let a = c .before .before .before .before .before .before .before .before .before .before .before .args in
     let w = tapeOf (partOf (a .part)) (a .job .now) (a .payload .now) in
-    let n = ap (λ (b : Bill). b .length) (c .before .before .before .before .before .bill-of .ensures) ∙ sym (tape-long (a .part) (a .s) (a .job .now) (a .payload .now) (ok (c .before .before .before .before .before .before))) in
+    let n = ap (λ (b : Bill). b .length) (c .before .before .before .before .before .bill-of .ensures) ∙ sym (tape-long (a .part) (a .setting) (a .job .now) (a .payload .now) (ok (c .before .before .before .before .before .before))) in
     (λ i. translateSeen (translateTold (Written (n i))) ((c .before .before .put-steps .ensures ∙ splice-front (a .tape .now) w) i))
-    ∙ translate-served (a .part) (a .s) (a .job .now) (a .payload .now) (a .tape .now) (ok (c .before .before .before .before .before .before)) (omega (arith, n, c .before .before .before .before .if2 .left))
+    ∙ translate-served (a .part) (a .setting) (a .job .now) (a .payload .now) (a .tape .now) (ok (c .before .before .before .before .before .before)) (omega (arith, n, c .before .before .before .before .if2 .left))
 
 pub translate-spec : {M : Type 1} → statement M
 translate-spec =

@@ -1,6 +1,6 @@
 use Rattle.tunebriar.proofs.Told.{found-told}
 use Rattle.tunebriar.specs.Found.{tbFound}
-use Rattle.rules.specs.Tape.{readAt, readOf}
+use Rattle.rules.specs.Reading.{readAt, readOf}
 use Rattle.tape.specs.declared.Reading.{Reading}
 use mathlib.Core.Path.{refl, ap, _∙_}
 use borrow.Author.Needs.{needs}
