@@ -12,8 +12,8 @@ cast-t7 c = search needs
 cast-t8 : tie.Need-cast-t8
 cast-t8 c = search needs
 
-level-requires : tie.Need-level-requires
-level-requires c κs = search needs
+flag-of-requires : tie.Need-flag-of-requires
+flag-of-requires c κs = search needs
 
 enum-told : tie.Need-enum-told
 enum-told c = search needs
@@ -46,7 +46,7 @@ returns : tie.Need-returns
 returns c =
     let s = c .before .before .before .before .found .given .0 .0 in
     rw (c .before .before .before .before .found .given .1)
-    (λ i. record { kind = 0; number = 0; length = s .length % 65536; leftover = s .leftover; wp = c .level .ensures i; start = s .start; next = c .before .before .before .before .before .before .args .next })
+    (λ i. record { kind = 0; number = 0; length = s .length % 65536; leftover = s .leftover; wp = c .flag-of .ensures .0 i; start = s .start; next = c .before .before .before .before .before .before .args .next })
 
 returns-2 : tie.Need-returns-2
 returns-2 c = rw (c .before .enum-told .given .1) (c .plain .ensures)
@@ -67,7 +67,7 @@ found-record-spec =
     enum-known-found
     cast-t7
     cast-t8
-    level-requires
+    flag-of-requires
     enum-told
     plain-requires
     enum-told-2
