@@ -3,16 +3,16 @@
 use mathlib.Core.Path.{_≡_}
 use mathlib.Core.List.{List}
 use Prim.Native.Nat.{ℕ}
-use denote.Ref.{RefT}
+use denote.Ref.{RefT, now}
 use Rattle.rules.specs.declared.Meter.{Meter}
 use Rattle.rules.specs.declared.Metered.{Metered}
 use Rattle.rules.specs.declared.AtPlace.{AtPlace}
 use Rattle.rules.specs.CountEntry.{countOf}
-use Rattle.rules.specs.Reading.{readAt}
-use Rattle.tape.specs.Record.{readingAt}
+use Rattle.rules.specs.Reading.{readTold, readOf}
 use Rattle.tape.specs.declared.Reading.{Reading}
 use Rattle.tape.specs.declared.Reader.{Reader}
-use Rattle.tape.specs.Moves.{found, after}
+use Rattle.tape.specs.Moves.{told, found, after}
+use Rattle.claims.proofs.Unique.{read-unique}
 use Rattle.claims.proofs.UniqueC.{same}
 
 -- an answer, and what is left where it lies
@@ -34,11 +34,18 @@ new-unique bytes r s p q =
 pub place-unique : (r : Reader) (n k : ℕ) → n ≡ r .place → k ≡ r .place → n ≡ k
 place-unique r = same (r .place)
 
-pub reader-read-unique : (r : Reader) (t u : AtPlace) (r₁ r₂ : Reader) → (t ≡ found r) × (r₁ ≡ after r) → (u ≡ found r) × (r₂ ≡ after r) → (t ≡ u) × (r₁ ≡ r₂)
-reader-read-unique r = both-same (found r) (after r)
+pub reader-read-unique : (r : Reader) (a c : AtPlace) (r₁ r₂ : Reader) → (told r a ≡ found r) × (r₁ ≡ after r) → (told r c ≡ found r) × (r₂ ≡ after r) → (a ≡ c) × (r₁ ≡ r₂)
+reader-read-unique r a c r₁ r₂ p q = (read-unique (now (r .bytes)) (r .place) a c (p .0) (q .0), same (after r) r₁ r₂ (p .1) (q .1))
 
-pub read-from-unique : (tape : List ℕ) (place : ℕ) (t u : AtPlace) → t ≡ readAt tape place → u ≡ readAt tape place → t ≡ u
-read-from-unique tape place = same (readAt tape place)
+pub read-from-unique : (tape : List ℕ) (place : ℕ) (a c : AtPlace) → readTold place a ≡ readOf tape place → readTold place c ≡ readOf tape place → a ≡ c
+read-from-unique = read-unique
 
-pub reading-at-unique : (tape : List ℕ) (place : ℕ) (r s : Reading) → r ≡ readingAt tape place → s ≡ readingAt tape place → r ≡ s
-reading-at-unique tape place = same (readingAt tape place)
+-- an answer, and the place after it
+abbrev pub ReadingFits : List ℕ → ℕ → Reading → Type 0
+ReadingFits tape place r = (readTold place (r .found) ≡ readOf tape place) × (r .next ≡ readOf tape place .next)
+
+pub reading-at-unique : (tape : List ℕ) (place : ℕ) (r s : Reading) → ReadingFits tape place r → ReadingFits tape place s → r ≡ s
+reading-at-unique tape place r s p q =
+    let e = read-unique tape place (r .found) (s .found) (p .0) (q .0) in
+    let n = same (readOf tape place .next) (r .next) (s .next) (p .1) (q .1) in
+    λ i. record { found = e i; next = n i }

@@ -4,7 +4,7 @@ use mathlib.Core.List.{List, [], _∷_, _++_}
 use Prim.Native.Nat.{ℕ, _+_, _≤_}
 use native.Mathlib.Omega.{arith}
 use lib.ListN.{length, take, drop, length-append}
-use lib.Seq.{drop-drop, length-take-le}
+use lib.Seq.{drop-drop, length-take-le, take-append-seam}
 use Rattle.rules.specs.Listing.{digits4, space}
 use Rattle.lines.specs.Line.{indexed, Laid}
 
@@ -31,3 +31,6 @@ laid-within {n} {l} {text} {k} h = omega (arith, h .long, simp length-append at 
 
 pub laid-count : {n : ℕ} {l text k : List ℕ} → Laid n l text k → n ≡ length (take n l)
 laid-count {n} {l} h = sym (length-take-le n l (laid-within h))
+
+pub laid-text : {n : ℕ} {l text k : List ℕ} → Laid n l text k → take n l ≡ text
+laid-text {n} {l} {text} {k} h = rw (h .long, h .is) (take-append-seam text (drop (length text) k))

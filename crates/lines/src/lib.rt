@@ -1,5 +1,4 @@
 // The lines of the listing program, and what it refuses. The program only writes them out.
-use lists::Found;
 use rules::AtPlace;
 use rules::LISTING_LIMIT;
 use rules::Refusal;
@@ -8,9 +7,12 @@ ghost use mathlib.Core.Path.{_≡_};
 ghost use mathlib.Core.List.{[], _∷_, _++_};
 ghost use Prim.Native.Nat.{_+_, _≤_, _<_};
 ghost use lib.ListN.{length};
-ghost use Rattle.rules.specs.Listing.{digit, digits3, digits4, hexDigit, space, lineFeed, transactionText, recordLine, refusedLine};
+ghost use mathlib.Core.Bool.{not, _||_};
+ghost use Rattle.lists.specs.Choice.{_<?_};
+ghost use Rattle.rules.specs.Listing.{listingLimit, digit, digits3, digits4, hexDigit, space, lineFeed, transactionText, refusedLine};
+ghost use Rattle.rules.specs.Tape.{whole};
 ghost use Rattle.lines.specs.Fault.{faultOf};
-ghost use Rattle.lines.specs.Line.{indexed, Laid};
+ghost use Rattle.lines.specs.Line.{recordWidth, refusedWidth, indexed, lineOf, Laid};
 
 // ---- digits, as bytes of text
 
@@ -108,28 +110,26 @@ fn put_indexed(line: &mut [u8], p: usize, text: &[u8]) -> usize
     5 + text.len()
 }
 
-// The line of record p, which a reader gives.
-pub fn record_line(tape: &[u8], p: usize, line: &mut [u8]) -> usize
-    requires { ⌜ 14 ≤ length (now line) ⌝ }
-    ensures { λ r. ⌜ Laid r (now (line .exit)) (recordLine (now (tape .entry)) p) (now (line .entry)) ⌝ }
+// The line of what a read of the tape at a place found. The end and a fault have none.
+pub fn record_line(tape: &[u8], place: usize, found: AtPlace, line: &mut [u8]) -> usize
+    requires { ⌜ recordWidth ≤ length (now line) ⌝ }
+    ensures { λ r. ⌜ Laid r (now (line .exit)) (lineOf (now (tape .entry)) place found) (now (line .entry)) ⌝ }
 {
-    let found = tape::read_from(tape, p);
     match found {
         AtPlace::Transaction(sent) => {
             let text = transaction_text(tape, sent);
-            put_indexed(line, p, &text)
+            put_indexed(line, place, &text)
         }
-        AtPlace::Finish => put_indexed(line, p, b"F\n"),
-        AtPlace::PowerCycle => put_indexed(line, p, b"P\n"),
-        // A record that is there and good is no end and no fault.
-        AtPlace::End => put_indexed(line, p, b"\n"),
-        AtPlace::Fault(_) => put_indexed(line, p, b"\n"),
+        AtPlace::Finish => put_indexed(line, place, b"F\n"),
+        AtPlace::PowerCycle => put_indexed(line, place, b"P\n"),
+        AtPlace::End => 0,
+        AtPlace::Fault(_) => 0,
     }
 }
 
 // The line of a fault.
 pub fn refused_line(number: u8, index: usize, line: &mut [u8]) -> usize
-    requires { ⌜ 16 ≤ length (now line) ⌝ }
+    requires { ⌜ refusedWidth ≤ length (now line) ⌝ }
     ensures { λ r. ⌜ Laid r (now (line .exit)) (refusedLine number index) (now (line .entry)) ⌝ }
 {
     let text = refused_text(number as usize, index);
@@ -139,31 +139,22 @@ pub fn refused_line(number: u8, index: usize, line: &mut [u8]) -> usize
 
 // ---- the whole tape, before the first line
 
-// 30 by length, 30, then 31; number 0 is none.
+// 30: longer than the listing takes, or not whole records.
+fn is_long_or_cut(tape: &[u8]) -> bool
+    ensures { λ r. ⌜ r ≡ ((listingLimit <? length (now (tape .entry))) || not (whole (now (tape .entry)))) ⌝ }
+{
+    if LISTING_LIMIT < tape.len() {
+        return true;
+    }
+    !tape::is_whole(tape)
+}
+
+// 30, then 31; number 0 is none.
 pub fn fault_of(tape: &[u8]) -> Refusal
     ensures { λ z. ⌜ z ≡ faultOf (now (tape .entry)) ⌝ }
 {
-    if LISTING_LIMIT < tape.len() {
-        return Refusal {
-            number: 30,
-            index: 0,
-        };
+    if is_long_or_cut(tape) {
+        return refusals::refusal(30);
     }
-    if !tape::is_whole(tape) {
-        return Refusal {
-            number: 30,
-            index: 0,
-        };
-    }
-    let found = tape::first_bad(tape);
-    match found {
-        Found::At(i) => Refusal {
-            number: 31,
-            index: i,
-        },
-        Found::Nothing => Refusal {
-            number: 0,
-            index: 0,
-        },
-    }
+    refusals::bad_record(tape::first_bad(tape))
 }

@@ -1,26 +1,83 @@
 // The listing program: a tape on standard input, a line a record on standard output.
-// Its lines, and what it refuses, are made by `lines`; here they are only written out.
+// Its lines, and what it refuses, are made by `lines`; here they are handed over, each in its turn.
+use rules::AtPlace;
+use tape::Reader;
+ghost use mathlib.Core.Path.{_≡_};
+ghost use mathlib.Core.Bool.{not, false};
+ghost use Prim.Native.Nat.{_+_};
+ghost use lib.ListN.{length};
+ghost use Rattle.rules.specs.Listing.{listingOf};
+ghost use Rattle.rules.specs.Reading.{readTold, readOf};
+ghost use Rattle.listing.specs.Handed.{Next, Come, Told, Whole};
+
+// What was handed to standard output: how many bytes, whether more may follow, and whether a write failed.
+struct Handed {
+    bytes: usize,
+    more: bool,
+    failed: bool,
+}
+
+// The only writer. It takes no bytes but those of the tape's listing that come after the first `done`.
+fn put(tape: &[u8], done: usize, bytes: &[u8]) -> Handed
+    requires { ⌜ Next (listingOf (now tape)) done (now bytes) ⌝ }
+    ensures { λ h. ⌜ (h .bytes ≡ done + length (now (bytes .entry))) × (h .more ≡ not (h .failed)) ⌝ }
+{
+    let written = io::write_all(1, bytes);
+    Handed {
+        bytes: done + bytes.len(),
+        more: written,
+        failed: !written,
+    }
+}
+
+// The line of what the reader found at a place. Where it found the end there is none, and no more follows.
+fn tell(tape: &[u8], place: usize, found: AtPlace, done: usize) -> Handed
+    requires { ⌜ (readTold place found ≡ readOf (now tape) place) × Come (now tape) place done ⌝ }
+    ensures { λ h. ⌜ Told (now (tape .entry)) place h ⌝ }
+{
+    let mut line = [0u8; 16];
+    let n = lines::record_line(tape, place, found, &mut line);
+    if n == 0 {
+        return Handed {
+            bytes: done,
+            more: false,
+            failed: false,
+        };
+    }
+    put(tape, done, &line[..n])
+}
+
+// One reader goes from a record to the end, and each record is told in its turn.
+fn list_from(tape: &[u8], place: usize, done: usize) -> Handed
+    requires { ⌜ Come (now tape) place done ⌝ }
+    ensures { λ h. ⌜ Whole (now (tape .entry)) h ⌝ }
+{
+    let mut reader = Reader { bytes: tape, place };
+    let mut handed = Handed {
+        bytes: done,
+        more: true,
+        failed: false,
+    };
+    while handed.more {
+        let at = reader.place;
+        let found = tape::read(&mut reader);
+        handed = tell(tape, at, found, handed.bytes);
+    }
+    handed
+}
 
 // The one line of a fault; or, of a tape without one, every record's line.
-fn list(tape: &[u8]) {
-    let mut line = [0u8; 16];
+fn list(tape: &[u8]) -> Handed
+    ensures { λ h. ⌜ Whole (now (tape .entry)) h ⌝ }
+{
     let fault = lines::fault_of(tape);
     let number = fault.number;
     if number != 0 {
+        let mut line = [0u8; 16];
         let n = lines::refused_line(number, fault.index, &mut line);
-        io::write_all(1, &line[..n]);
-        return;
+        return put(tape, 0, &line[..n]);
     }
-    let count = tape::record_count(tape);
-    let mut p = 0;
-    while p < count {
-        let n = lines::record_line(tape, p, &mut line);
-        // Where a write fails, the lines after it are not tried.
-        if !io::write_all(1, &line[..n]) {
-            return;
-        }
-        p += 1;
-    }
+    list_from(tape, 0, 0)
 }
 
 // One byte more than a tape may have, so that a longer one is seen. With the line, 65,489 bytes: within 64 KiB.

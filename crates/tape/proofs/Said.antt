@@ -1,5 +1,5 @@
 -- What a read at a place answers, what record stands there, and where the place is after it.
-use mathlib.Core.Path.{_≡_, refl}
+use mathlib.Core.Path.{_≡_, refl, ap, _∙_}
 use mathlib.Core.Bool.{Bool, true, false, not}
 use mathlib.Core.List.{List}
 use Prim.Native.Nat.{ℕ, _+_, _≤_, _<_, _^_}
@@ -11,7 +11,8 @@ use Rattle.lists.specs.Choice.{if_then_else_}
 use Rattle.rules.specs.declared.AtPlace.{AtPlace}
 use Rattle.rules.specs.declared.AtPlace.the-variants.{Transaction, Finish, PowerCycle, End, Fault}
 use Rattle.rules.specs.Tape.{finish, powerCycle, kindAt, recAt, records, whole, goodRecord}
-use Rattle.rules.specs.Reading.{sentAt, readAt, nextPlace}
+use Rattle.rules.specs.Reading.{sentAt, readAt, nextPlace, readTold, readOf}
+use Rattle.rules.proofs.Apart.{reads-apart}
 use Rattle.tape.specs.Record.{saidAt, recOf}
 
 -- a good record is read as what it says
@@ -30,7 +31,30 @@ said-rec t p = go (eqb (kindAt t p) 0) (eqb (kindAt t p) 1)
     go false true = refl
     go false false = refl
 
+-- what is told as a read is told is the read
+pub read-is : (t : List ℕ) (p : ℕ) (a : AtPlace) → readTold p a ≡ readOf t p → a ≡ readAt t p
+unfolding readOf
+read-is t p a e = reads-apart p a (readAt t p) e
+
 -- ---- the place after a read
+
+-- what a record says moves it by one
+pub said-moves : (t : List ℕ) (p : ℕ) → nextPlace p (saidAt t p) ≡ p + 1
+unfolding saidAt if_then_else_
+said-moves t p = go (eqb (kindAt t p) 0) (eqb (kindAt t p) 1)
+  where
+    go : (a b : Bool) → nextPlace p (if a then Transaction (sentAt t p) else if b then Finish else PowerCycle) ≡ p + 1
+    go true b = refl
+    go false true = refl
+    go false false = refl
+
+-- it is told with the answer
+pub next-told : (p : ℕ) (a : AtPlace) → nextPlace p a ≡ readTold p a .next
+next-told p (Transaction s) = refl
+next-told p Finish = refl
+next-told p PowerCycle = refl
+next-told p End = refl
+next-told p (Fault n) = refl
 
 next-le : (p : ℕ) (a : AtPlace) → nextPlace p a ≤ p + 1
 next-le p (Transaction s) = omega arith

@@ -7,8 +7,7 @@ use Rattle.lists.specs.Choice.{if_then_else_, _=?_, _≤?_}
 use Rattle.rules.specs.declared.AtPlace.{AtPlace}
 use Rattle.rules.specs.declared.AtPlace.the-variants.{Transaction, Finish, PowerCycle, End, Fault}
 use Rattle.rules.specs.Tape.{Rec, transaction, finish, powerCycle, sentLimit, kindAt}
-use Rattle.rules.specs.Reading.{sentAt, readAt, nextPlace}
-use Rattle.tape.specs.declared.Reading.{Reading}
+use Rattle.rules.specs.Reading.{sentAt}
 
 -- what 31 asks of a record's length, kind and byte 3
 unfoldable pub headGood : ℕ → ℕ → ℕ → Bool
@@ -28,7 +27,3 @@ recOf t Finish = finish
 recOf t PowerCycle = powerCycle
 recOf t End = powerCycle
 recOf t (Fault n) = powerCycle
-
--- a read, and the place after it
-abbrev pub readingAt : List ℕ → ℕ → Reading
-readingAt t p = record { found = readAt t p; next = nextPlace p (readAt t p) }

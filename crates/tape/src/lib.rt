@@ -11,9 +11,9 @@ ghost use lib.ListN.{length, take, drop, replicate};
 ghost use Rattle.lists.specs.Places.{everyIn};
 ghost use Rattle.rules.specs.Status.{flag};
 ghost use Rattle.rules.specs.Tape.{Rec, recordLength, sentLimit, lengthAt, whole, records, isZero, goodRecord, firstBad, encodeRec};
-ghost use Rattle.rules.specs.Reading.{readAt, nextPlace};
-ghost use Rattle.tape.specs.Moves.{found, after};
-ghost use Rattle.tape.specs.Record.{headGood, saidAt, readingAt};
+ghost use Rattle.rules.specs.Reading.{nextPlace, readTold, readOf};
+ghost use Rattle.tape.specs.Moves.{told, found, after};
+ghost use Rattle.tape.specs.Record.{headGood, saidAt};
 
 // ---- the whole tape
 
@@ -91,7 +91,7 @@ fn is_good_head(n: usize, kind: u8, bits: u8) -> bool
 }
 
 // Not 31.
-pub fn is_good(tape: &[u8], place: usize) -> bool
+fn is_good(tape: &[u8], place: usize) -> bool
     requires { ⌜ place < records (now tape) ⌝ }
     ensures { λ r. ⌜ r ≡ goodRecord (now (tape .entry)) place ⌝ }
 {
@@ -130,7 +130,7 @@ pub fn said_at(tape: &[u8], place: usize) -> AtPlace
 // ---- a read at a place
 
 pub fn read_at(tape: &[u8], place: usize) -> AtPlace
-    ensures { λ r. ⌜ r ≡ readAt (now (tape .entry)) place ⌝ }
+    ensures { λ r. ⌜ readTold place r ≡ readOf (now (tape .entry)) place ⌝ }
 {
     if !is_whole(tape) {
         return AtPlace::Fault(30);
@@ -145,7 +145,7 @@ pub fn read_at(tape: &[u8], place: usize) -> AtPlace
 }
 
 // The place after an answer. What a read answers meets the bound: `next-fits`.
-pub fn next_place(place: usize, found: AtPlace) -> usize
+fn next_place(place: usize, found: AtPlace) -> usize
     requires { ⌜ nextPlace place found < 2 ^ 64 ⌝ }
     ensures { λ r. ⌜ r ≡ nextPlace place found ⌝ }
 {
@@ -165,7 +165,7 @@ pub struct Reading {
 }
 
 pub fn reading_at(tape: &[u8], place: usize) -> Reading
-    ensures { λ r. ⌜ r ≡ readingAt (now (tape .entry)) place ⌝ }
+    ensures { λ r. ⌜ (readTold place (r .found) ≡ readOf (now (tape .entry)) place) × (r .next ≡ readOf (now (tape .entry)) place .next) ⌝ }
 {
     let found = read_at(tape, place);
     Reading {
@@ -183,32 +183,32 @@ fn clear(s: &mut [u8])
     cells::fill(s, 0);
 }
 
-// The bytes from a on become b.
-pub fn put(s: &mut [u8], a: usize, b: &[u8])
-    requires { ⌜ a + length (now b) ≤ length (now s) ⌝ }
-    ensures { λ _. ⌜ now (s .exit) ≡ take a (now (s .entry)) ++ now (b .entry) ++ drop (a + length (now (b .entry))) (now (s .entry)) ⌝ }
+// The bytes from the start on become the given ones.
+pub fn put(out: &mut [u8], start: usize, bytes: &[u8])
+    requires { ⌜ start + length (now bytes) ≤ length (now out) ⌝ }
+    ensures { λ _. ⌜ now (out .exit) ≡ take start (now (out .entry)) ++ now (bytes .entry) ++ drop (start + length (now (bytes .entry))) (now (out .entry)) ⌝ }
 {
-    let e = a + b.len();
-    cells::copy(&mut s[a..e], b);
+    let end = start + bytes.len();
+    cells::copy(&mut out[start..end], bytes);
 }
 
 // Byte 3: the leftover bits, plus 8 where /WP is high.
-fn bits_of(x: u8, high: bool) -> u8
-    requires { ⌜ x ≤ 7 ⌝ }
-    ensures { λ r. ⌜ r ≡ x + flag high * 8 ⌝ }
+fn bits_of(leftover: u8, high: bool) -> u8
+    requires { ⌜ leftover ≤ 7 ⌝ }
+    ensures { λ r. ⌜ r ≡ leftover + flag high * 8 ⌝ }
 {
-    if high { x + 8 } else { x }
+    if high { leftover + 8 } else { leftover }
 }
 
-pub fn put_transaction(out: &mut [u8], b: &[u8], x: u8, high: bool)
-    requires { ⌜ (length (now out) ≡ recordLength) × (length (now b) ≤ sentLimit) × (x ≤ 7) ⌝ }
-    ensures { λ _. ⌜ now (out .exit) ≡ encodeRec (Rec.transaction (now (b .entry)) x high) ⌝ }
+pub fn put_transaction(out: &mut [u8], bytes: &[u8], leftover: u8, high: bool)
+    requires { ⌜ (length (now out) ≡ recordLength) × (length (now bytes) ≤ sentLimit) × (leftover ≤ 7) ⌝ }
+    ensures { λ _. ⌜ now (out .exit) ≡ encodeRec (Rec.transaction (now (bytes .entry)) leftover high) ⌝ }
 {
-    let n = b.len();
-    let head = [(n / 256) as u8, (n % 256) as u8, 0, bits_of(x, high)];
+    let n = bytes.len();
+    let head = [(n / 256) as u8, (n % 256) as u8, 0, bits_of(leftover, high)];
     clear(out);
     put(out, 0, &head);
-    put(out, 4, b);
+    put(out, 4, bytes);
 }
 
 pub fn put_finish(out: &mut [u8])
@@ -233,25 +233,25 @@ pub fn new<'a>(bytes: &'a [u8]) -> Reader<'a>
     Reader { bytes, place: 0 }
 }
 
-pub fn place<'a>(r: Reader<'a>) -> usize
-    ensures { λ n. ⌜ n ≡ r .entry .place ⌝ }
+pub fn place<'a>(reader: Reader<'a>) -> usize
+    ensures { λ n. ⌜ n ≡ reader .entry .place ⌝ }
 {
-    r.place
+    reader.place
 }
 
 // A record moves the place by one; the end and a fault leave it.
-pub fn read<'s, 'a>(r: &'s mut Reader<'a>) -> AtPlace
-    ensures { λ t. ⌜ (t ≡ found (now (r .entry))) × (now (r .exit) ≡ after (now (r .entry))) ⌝ }
+pub fn read<'s, 'a>(reader: &'s mut Reader<'a>) -> AtPlace
+    ensures { λ r. ⌜ (told (now (reader .entry)) r ≡ found (now (reader .entry))) × (now (reader .exit) ≡ after (now (reader .entry))) ⌝ }
 {
-    let got = reading_at(r.bytes, r.place);
-    r.place = got.next;
+    let got = reading_at(reader.bytes, reader.place);
+    reader.place = got.next;
     got.found
 }
 
 // The answer of a reader of the tape that has come to a place. Its callers need know nothing of readers.
 pub fn read_from(tape: &[u8], place: usize) -> AtPlace
-    ensures { λ t. ⌜ t ≡ readAt (now (tape .entry)) place ⌝ }
+    ensures { λ r. ⌜ readTold place r ≡ readOf (now (tape .entry)) place ⌝ }
 {
-    let mut r = Reader { bytes: tape, place };
-    read(&mut r)
+    let mut reader = Reader { bytes: tape, place };
+    read(&mut reader)
 }

@@ -1,2 +1,1 @@
 pub mod CEntries
-pub mod Found

@@ -14,8 +14,7 @@ ghost use Rattle.rules.specs.Transact.{transactTold, transactOf};
 ghost use Rattle.rules.specs.EventEntries.{eventTold, finishOf, powerCycleOf};
 ghost use Rattle.rules.specs.CountEntry.{metered, countOf};
 ghost use Rattle.rules.specs.Replay.{replayTold, replayOf, replayFirstOf};
-ghost use Rattle.rules.specs.Reading.{readOf};
-ghost use Rattle.tunebriar.specs.Found.{tbPlain, tbFound};
+ghost use Rattle.rules.specs.Reading.{plainTold, readOf};
 ghost use lib.ListN.{length};
 ghost use Rattle.rules.specs.Translate.{translateTold, translateOf, quoteTold, quoteOf};
 ghost use Rattle.tunebriar.specs.CEntries.{tbAnswer, tbEvent, tbTape, tbBill, tbRecord, tbTransact, tbReplay, tbTranslate, tbSeen, tbPlayed, tbTranslated};
@@ -218,34 +217,27 @@ pub extern "C" fn tb_read(tape: &[u8], place: u64) -> TbRecord
 {
     let r = tape::reading_at(tape, place as usize);
     let found = r.found;
-    let next = r.next;
-    found_record(found, next as u64)
-}
-
-// A read's answer and the place after it.
-fn found_record(found: AtPlace, next: u64) -> TbRecord
-    ensures { λ a. ⌜ a ≡ tbFound found next ⌝ }
-{
+    let next = r.next as u64;
     match found {
-        AtPlace::Transaction(s) => TbRecord {
+        AtPlace::Transaction(sent) => TbRecord {
             kind: 0,
             number: 0,
-            length: (s.length % 65536) as u32,
-            leftover: s.leftover as u32,
-            wp: regs::flag_of(s.high),
-            start: s.start as u64,
+            length: sent.length as u32,
+            leftover: sent.leftover as u32,
+            wp: regs::flag_of(sent.high),
+            start: sent.start as u64,
             next: next,
         },
         AtPlace::Finish => plain(1, 0, next),
         AtPlace::PowerCycle => plain(2, 0, next),
         AtPlace::End => plain(3, 0, next),
-        AtPlace::Fault(n) => plain(4, n as u32, next),
+        AtPlace::Fault(number) => plain(4, number as u32, next),
     }
 }
 
 // An answer that is no transaction.
 fn plain(kind: u32, number: u32, next: u64) -> TbRecord
-    ensures { λ a. ⌜ a ≡ tbPlain kind number next ⌝ }
+    ensures { λ a. ⌜ a ≡ tbRecord (plainTold kind number next) ⌝ }
 {
     TbRecord {
         kind: kind,

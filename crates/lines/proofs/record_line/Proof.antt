@@ -1,10 +1,6 @@
-use Rattle.rules.specs.Listing.{recordLine}
 use borrow.Author.Needs.{needs}
 use Rattle.lines.proofs.record_line.Statement.{statement}
 use Rattle.lines.proofs.record_line.Tie as tie
-
-read-from-requires : tie.Need-read-from-requires
-read-from-requires c κs = search needs
 
 enum-known-found : tie.Need-enum-known-found
 enum-known-found c = search needs
@@ -39,72 +35,39 @@ put-indexed-requires-3 c κs = search needs
 enum-told-3 : tie.Need-enum-told-3
 enum-told-3 c = search needs
 
-slice-aggregate-put-indexed-4 : tie.Need-slice-aggregate-put-indexed-4
-slice-aggregate-put-indexed-4 c = search needs
-
-put-indexed-requires-4 : tie.Need-put-indexed-requires-4
-put-indexed-requires-4 c κs = search needs
-
 enum-told-4 : tie.Need-enum-told-4
 enum-told-4 c = search needs
-
-slice-aggregate-put-indexed-5 : tie.Need-slice-aggregate-put-indexed-5
-slice-aggregate-put-indexed-5 c = search needs
-
-put-indexed-requires-5 : tie.Need-put-indexed-requires-5
-put-indexed-requires-5 c κs = search needs
 
 same-length : tie.Need-same-length
 same-length c = search needs
 
 returns : tie.Need-returns
-unfolding recordLine
 returns c =
     let t = c .before .before .before .before .before in
-    let f = t .before .before in
-    rw (← f .before .before .read-from .ensures, f .found .given .1, ← t .transaction-text .ensures) (c .before .before .put-indexed .ensures)
+    rw (t .before .before .found .given .1, ← t .transaction-text .ensures) (c .before .before .put-indexed .ensures)
 
 same-length-2 : tie.Need-same-length-2
 same-length-2 c = search needs
 
 returns-2 : tie.Need-returns-2
-unfolding recordLine
-returns-2 c =
-    let f = c .before .before .before .before .before in
-    rw (← f .before .before .read-from .ensures, f .enum-told .given .1) (c .before .before .put-indexed2 .ensures)
+returns-2 c = rw (c .before .before .before .before .before .enum-told .given .1) (c .before .before .put-indexed2 .ensures)
 
 same-length-3 : tie.Need-same-length-3
 same-length-3 c = search needs
 
 returns-3 : tie.Need-returns-3
-unfolding recordLine
-returns-3 c =
-    let f = c .before .before .before .before .before in
-    rw (← f .before .before .read-from .ensures, f .enum-told2 .given .1) (c .before .before .put-indexed3 .ensures)
-
-same-length-4 : tie.Need-same-length-4
-same-length-4 c = search needs
+returns-3 c = rw (c .before .before .before .before .before .enum-told2 .given .1) (c .before .before .put-indexed3 .ensures)
 
 returns-4 : tie.Need-returns-4
-unfolding recordLine
-returns-4 c =
-    let f = c .before .before .before .before .before in
-    rw (← f .before .before .read-from .ensures, f .enum-told3 .given .1) (c .before .before .put-indexed4 .ensures)
-
-same-length-5 : tie.Need-same-length-5
-same-length-5 c = search needs
+returns-4 c = search needs
 
 returns-5 : tie.Need-returns-5
-unfolding recordLine
-returns-5 c =
-    let f = c .before .before .before .before .before in
-    rw (← f .before .before .read-from .ensures, f .enum-told4 .given .1) (c .before .before .put-indexed5 .ensures)
+returns-5 c = search needs
 
 pub record-line-spec : {M : Type 1} → statement M
 record-line-spec =
     tie.close
     (tie.spec
-    read-from-requires
     enum-known-found
     transaction-text-requires
     slice-aggregate-put-indexed
@@ -116,18 +79,12 @@ record-line-spec =
     slice-aggregate-put-indexed-3
     put-indexed-requires-3
     enum-told-3
-    slice-aggregate-put-indexed-4
-    put-indexed-requires-4
     enum-told-4
-    slice-aggregate-put-indexed-5
-    put-indexed-requires-5
     same-length
     returns
     same-length-2
     returns-2
     same-length-3
     returns-3
-    same-length-4
     returns-4
-    same-length-5
     returns-5)

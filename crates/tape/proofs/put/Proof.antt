@@ -8,8 +8,8 @@ use borrow.Author.Needs.{needs}
 use Rattle.tape.proofs.put.Statement.{statement}
 use Rattle.tape.proofs.put.Tie as tie
 
-add-e : tie.Need-add-e
-add-e c = search needs
+add-end : tie.Need-add-end
+add-end c = search needs
 
 sub-copy : tie.Need-sub-copy
 sub-copy c = search needs
@@ -29,12 +29,12 @@ same-length c = search needs
 returns : tie.Need-returns
 returns c =
     let a = c .before .before .before .before .before .before .args in
-    let n = length (a .b .now) in
-    ap (putMid (a .a) (a .a + n - a .a) (a .s .now)) (c .before .before .copy .ensures)
-    ∙ ap (λ (r : List ℕ). take (a .a) (a .s .now) ++ (a .b .now ++ r)) (post-is (a .a) (a .a + n) (a .s .now) (omega arith))
-    ∙ sym (append-assoc (take (a .a) (a .s .now)) (a .b .now) _)
+    let n = length (a .bytes .now) in
+    ap (putMid (a .start) (a .start + n - a .start) (a .out .now)) (c .before .before .copy .ensures)
+    ∙ ap (λ (r : List ℕ). take (a .start) (a .out .now) ++ (a .bytes .now ++ r)) (post-is (a .start) (a .start + n) (a .out .now) (omega arith))
+    ∙ sym (append-assoc (take (a .start) (a .out .now)) (a .bytes .now) _)
 
 pub put-spec : {M : Type 1} → statement M
 put-spec =
     tie.close
-    (tie.spec add-e sub-copy part-copy-start part-copy-end copy-requires same-length returns)
+    (tie.spec add-end sub-copy part-copy-start part-copy-end copy-requires same-length returns)

@@ -39,7 +39,7 @@ returns c =
     let q = p .before .before .before .before .before in
     let s = q .before .before in
     let a = s .before .before .before in
-    let b = a .args .b .now in
+    let b = a .args .bytes .now in
     transaction-written _ _ _ b _ (length b / 256) (length b % 256) 0 (s .bits-of .result) (a .pre .0) (a .pre .1)
     (q .clear .ensures) (p .put .ensures) (c .before .before .put2 .ensures)
     ∙ ap (λ (v : ℕ). length b / 256 ∷ length b % 256 ∷ 0 ∷ v ∷ b ++ replicate (260 - length b) 0) (s .bits-of .ensures)

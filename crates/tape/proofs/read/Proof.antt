@@ -44,9 +44,9 @@ use denote.Triple.Entry.{Vals, onEntry}
 use denote.Triple.Spec.{Meets, tripleOf}
 use denote.Triple.Table.{entered, cited}
 use denote.Triple.Walked.{says, Stays, stay-ref, walkOf, goes-ref, Walks, ends-at, walked, walk-meets}
+use Rattle.rules.specs.Reading.{readTold, readOf}
 use Rattle.rules.proofs.AtPlace as P
 use Rattle.rules.proofs.AtPlace.Laws as P′
-use Rattle.tape.specs.Record.{readingAt}
 use Rattle.tape.specs.declared.Reader.{Reader}
 use Rattle.tape.specs.declared.Reading.{Reading}
 use Rattle.tape.proofs.Reader as T
@@ -114,8 +114,9 @@ module _ {M : Type 1} (𝓤 : URA M) (H : Heap 𝓤) (A : Atoms 𝓤) (W : Given
   abbrev to : ReadingAt 𝓤 H A at-mem run .Ghost
   to = (((κ′, tt), (q′, tt), tt, (h .bytes, (h .place, tt)), passed), tt)
 
-  abbrev got : Reading
-  got = readingAt (now (h .bytes)) (h .place)
+  -- what `reading_at` promises of its result
+  abbrev Said : Reading → Type 0
+  Said r = (readTold (h .place) (r .found) ≡ readOf (now (h .bytes)) (h .place)) × (r .next ≡ readOf (now (h .bytes)) (h .place) .next)
 
   -- the reader after, and the machine value of the answer
   abbrev h′ : Reading → Reader
@@ -138,18 +139,18 @@ module _ {M : Type 1} (𝓤 : URA M) (H : Heap 𝓤) (A : Atoms 𝓤) (W : Given
       move ! (2 ∷ 0 ∷ []) $ use2 W (raw (ReadingAt 𝓤 H A at-mem run .pre to)) asked $ frame ! $ done !)
 
   -- of the callee's `ensured`, the clause alone: it has no `&mut`, so what is said of last values is dropped
-  said : (r : Reading) → ent 𝓤 (ensured 𝓤 H A reading-at.ended (reading-at.clauses 𝓤 H A at-mem run) (κ′, tt) (h .bytes, (h .place, tt)) tt r) (fact 𝓤 (r ≡ got))
-  said r = exE 𝓤 _ (λ ws. snd∗ 𝓤 (sem 𝓤 H A (lasts reading-at.ended (κ′, tt) (h .bytes, (h .place, tt)) ws)) (fact 𝓤 (r ≡ got)))
+  said : (r : Reading) → ent 𝓤 (ensured 𝓤 H A reading-at.ended (reading-at.clauses 𝓤 H A at-mem run) (κ′, tt) (h .bytes, (h .place, tt)) tt r) (fact 𝓤 (Said r))
+  said r = exE 𝓤 _ (λ ws. snd∗ 𝓤 (sem 𝓤 H A (lasts reading-at.ended (κ′, tt) (h .bytes, (h .place, tt)) ws)) (fact 𝓤 (Said r)))
 
   -- what bytes owns is kept, and place's facts are made anew
   again : (r : Reading) → r .next < 2 ^ 64 → ent 𝓤 (sem 𝓤 H A Own) (sem 𝓤 H A (B κ′ .own (h′ r) (T′.lowered (h′ r) ∷ [])))
   again r fits = qed W (‵ Own ∷ []) ∵ owned ! usize (Is usize) (uint-makes 𝓤 H A W w64) (r .next) _ (refl, fits) $ move ! (1 ∷ 0 ∷ []) $ by ! (own-put 𝓤 H A W D L 1 vd (r .next) mach)
 
-  exits : (r : Reading) → r ≡ got → Is P.the-row (r .found) (pv r ∷ [])
+  exits : (r : Reading) → Said r → Is P.the-row (r .found) (pv r ∷ [])
       → ent 𝓤 (⋆ 𝓤 H A (‵ (fobs γ (B κ′ .coded .code (h′ r))) ∷ ‵ (fbor κ (Body (mem (B κ′)) b o γ)) ∷ ‵ (flft κ q) ∷ (‵ (flft κ′ q′) ⊛ ‵ ftrue) ∷ [])) (Post (pv r))
   exits r e is =
       qed W (‵ (fobs γ (B κ′ .coded .code (h′ r))) ∷ ‵ (fbor κ (Body (mem (B κ′)) b o γ)) ∷ ‵ (flft κ q) ∷ (‵ (flft κ′ q′) ⊛ ‵ ftrue) ∷ []) ∵
-      suffices ! _ (ends-at 𝓤 H A read.ended stayed (read.clauses 𝓤 H A at-mem run) W (((κ, (κ′, tt)), (q, (q′, tt)), bounds, x, at), tt) (pv r) (r .found) (h′ r, tt) (tt, tt)) $ says ! (ap (λ (z : Reading). z .found) e, ap h′ e) $
+      suffices ! _ (ends-at 𝓤 H A read.ended stayed (read.clauses 𝓤 H A at-mem run) W (((κ, (κ′, tt)), (q, (q′, tt)), bounds, x, at), tt) (pv r) (r .found) (h′ r, tt) (tt, tt)) $ says ! (e .0, ap (λ (n : ℕ). record { bytes = h .bytes; place = n }) (e .1)) $
       move ! (2 ∷ 3 ∷ []) $ join ! $ frame ! $ feqI ! (List Val) (vptr b o ∷ []) (vptr b o ∷ []) refl $ fjoin3 ! $ nothing ! $ move ! (1 ∷ 0 ∷ []) $ fjoin ! $
       owned ! P.the-row (Is P.the-row) (EL.makes P.the-type P′.the-plain 𝓤 H A) (r .found) _ is $ move ! (1 ∷ 0 ∷ []) $ done !
 
@@ -168,7 +169,7 @@ module _ {M : Type 1} (𝓤 : URA M) (H : Heap 𝓤) (A : Atoms 𝓤) (W : Given
         move ! (1 ∷ 5 ∷ []) $ use2 W (raw (ReadingAt 𝓤 H A at-mem run .pre to) ⊛ ‵ Own) (apart (was .1 .1 .1 .0 .1)) $ split ! $
         calls-at ! fm (ReadingAt 𝓤 H A at-mem run) known to (and-then ! (load ! (from ! (stop !)) (look ! 9 refl)) (and-then ! (load ! (from ! (stop !)) (look ! 7 refl)) (no-more !))) (λ u.
         use1 W (later (some (λ (r : Reading). ((‵ (flft κ′ q′) ⊛ ‵ ftrue) ⊛ ‵ (S.the-row .own r (u ∷ []))) ⊛ raw (ensured 𝓤 H A reading-at.ended (reading-at.clauses 𝓤 H A at-mem run) (κ′, tt) (h .bytes, (h .place, tt)) tt r)))) (id⊢ 𝓤 _) $ await ! tt $ pick ! (λ r.
-        split ! $ move ! (1 ∷ []) $ use1 W (raw (fact 𝓤 (r ≡ got))) (said r) $ heard ! (r ≡ got) (λ e. split ! $ move ! (1 ∷ []) $
+        split ! $ move ! (1 ∷ []) $ use1 W (raw (fact 𝓤 (Said r))) (said r) $ heard ! (Said r) (λ e. split ! $ move ! (1 ∷ []) $
         -- [the result; 'a's token; what a Reader owns; the struct's cell; the open borrow; obs; auth; true; _4; …; _3; …; _2; …; _1; …; room for _0; …]
         peeks ! S.the-row (Is S.the-row) (shows 𝓤 H A S.the-row) r (u ∷ []) (λ is.
         land ! (from ! (stop !)) (init ! 12 refl (LL.lawful S.the-type S′.the-laws 𝓤 H A W .typed r _ is .0)) $

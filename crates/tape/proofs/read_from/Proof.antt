@@ -47,10 +47,10 @@ use denote.Triple.Walked.{says, Stays, stay-none, stay-none-slice, walkOf, goes-
 use denote.Exit.{yes}
 use denote.Triple.Clauses.{ensured, lasts}
 use Rattle.rules.specs.declared.AtPlace.{AtPlace}
-use Rattle.rules.specs.Reading.{readAt}
+use Rattle.rules.specs.Reading.{readTold, readOf}
 use Rattle.rules.proofs.AtPlace as P
 use Rattle.rules.proofs.AtPlace.Laws as P′
-use Rattle.tape.specs.Moves.{found, after}
+use Rattle.tape.specs.Moves.{told, found, after}
 use Rattle.tape.specs.declared.Reader.{Reader}
 use Rattle.tape.proofs.Reader as T
 use Rattle.tape.proofs.Reader.Laws as T′
@@ -133,7 +133,7 @@ module _ {M : Type 1} (𝓤 : URA M) (H : Heap 𝓤) (A : Atoms 𝓤) (W : Given
       qed W (‵ (MutRef (named 0) (α ∷ κ) R .own (lent l γ) (vptr l 0 ∷ [])) ∷ ‵ (flft (α ∷ κ) (PosShare·left q)) ∷ ‵ (flft κ (PosShare·right q)) ∷ []) ∵
       nothing ! $ move ! (3 ∷ 0 ∷ []) $ join ! $ move ! (2 ∷ 0 ∷ []) $ join ! $ nothing ! $ move ! (2 ∷ 0 ∷ []) $ fjoin ! $ move ! (1 ∷ 0 ∷ []) $ join ! $ frame ! $ done !
 
-  exits : (t : AtPlace) (w : Val) → t ≡ readAt (now s) n → ent 𝓤 (⋆ 𝓤 H A (‵ (P.the-row .own t (w ∷ [])) ∷ ‵ (flft κ q) ∷ ‵ Passed ∷ [])) (Post w)
+  exits : (t : AtPlace) (w : Val) → readTold n t ≡ readOf (now s) n → ent 𝓤 (⋆ 𝓤 H A (‵ (P.the-row .own t (w ∷ [])) ∷ ‵ (flft κ q) ∷ ‵ Passed ∷ [])) (Post w)
   exits t w e =
       qed W (‵ (P.the-row .own t (w ∷ [])) ∷ ‵ (flft κ q) ∷ ‵ Passed ∷ []) ∵
       suffices ! _ (ends-at 𝓤 H A read-from.ended stayed (read-from.clauses 𝓤 H A at-mem run) W (((κ, tt), (q, tt), tt, (s, (n, tt)), at), tt) w t (tt, (tt, tt)) (tt, (tt, tt))) $ says ! e $
@@ -161,8 +161,8 @@ module _ {M : Type 1} (𝓤 : URA M) (H : Heap 𝓤) (A : Atoms 𝓤) (W : Given
         calls-at ! fm (Read 𝓤 H A at-mem run) known-read (to-read α l₃ γ) (and-then ! (load ! (from ! (stop !)) (look ! 5 refl)) (no-more !)) (λ w.
         use1 W (later (some (λ (t : AtPlace). ((‵ (flft (α ∷ κ) (PosShare·left q)) ⊛ ‵ (flft κ (PosShare·right q)) ⊛ ‵ ftrue) ⊛ ‵ (P.the-row .own t (w ∷ []))) ⊛ raw (ensured 𝓤 H A read.ended (read.clauses 𝓤 H A at-mem run) (α ∷ κ, (κ, tt)) (lent l₃ γ, tt) tt t)))) (id⊢ 𝓤 _) $ await ! tt $ pick ! (λ t.
         -- what `read` ensures, at some last record
-        split ! $ move ! (1 ∷ []) $ use1 W (some (λ (zs : Reader × Unit {0}). ‵ (lasts read.ended (α ∷ κ, (κ, tt)) (lent l₃ γ, tt) zs) ⊛ raw (fact 𝓤 ((t ≡ found made) × (zs .0 ≡ after made))))) (id⊢ 𝓤 _) $ pick ! (λ zs.
-        split ! $ move ! (1 ∷ []) $ heard ! ((t ≡ found made) × (zs .0 ≡ after made)) (λ e. fsplit ! $ move ! (2 ∷ []) $ split ! $ move ! (1 ∷ []) $
+        split ! $ move ! (1 ∷ []) $ use1 W (some (λ (zs : Reader × Unit {0}). ‵ (lasts read.ended (α ∷ κ, (κ, tt)) (lent l₃ γ, tt) zs) ⊛ raw (fact 𝓤 ((told made t ≡ found made) × (zs .0 ≡ after made))))) (id⊢ 𝓤 _) $ pick ! (λ zs.
+        split ! $ move ! (1 ∷ []) $ heard ! ((told made t ≡ found made) × (zs .0 ≡ after made)) (λ e. fsplit ! $ move ! (2 ∷ []) $ split ! $ move ! (1 ∷ []) $
         -- [the result; the tokens; the last record; true; the lender's part; the rest; true; what tape and place own; _4; …; …; _2; …; _1; …; room for _0; …]
         peeks ! P.the-row (Is P.the-row) (shows 𝓤 H A P.the-row) t (w ∷ []) (λ is.
         land ! (from ! (stop !)) (init ! 15 refl (EL.lawful P.the-type P′.the-laws 𝓤 H A W tt .typed t _ is .0)) $

@@ -1,7 +1,7 @@
 use mathlib.Core.Path.{ap, _∙_}
 use native.Mathlib.Omega.{arith}
-use Rattle.rules.specs.Reading.{nextPlace}
-use Rattle.tape.proofs.Said.{next-fits}
+use Rattle.rules.specs.Reading.{ReadTold}
+use Rattle.tape.proofs.Said.{read-is, next-told, next-fits}
 use borrow.Author.Needs.{needs}
 use Rattle.tape.proofs.reading_at.Statement.{statement}
 use Rattle.tape.proofs.reading_at.Tie as tie
@@ -12,13 +12,12 @@ read-at-requires c κs = search needs
 next-place-requires : tie.Need-next-place-requires
 next-place-requires c κs =
     let a = c .before .before .args in
-    rw (c .read-at .ensures) (next-fits (a .tape .now) (a .place) (omega arith) (omega arith))
+    rw (read-is (a .tape .now) (a .place) (c .read-at .result) (c .read-at .ensures)) (next-fits (a .tape .now) (a .place) (omega arith) (omega arith))
 
 returns : tie.Need-returns
 returns c =
-    let p = c .before .before .before .args .place in
     let e = c .before .read-at .ensures in
-    λ i. record { found = e i; next = (c .next-place .ensures ∙ ap (nextPlace p) e) i }
+    (e, c .next-place .ensures ∙ next-told (c .before .before .before .args .place) (c .before .read-at .result) ∙ ap (λ (t : ReadTold). t .next) e)
 
 pub reading-at-spec : {M : Type 1} → statement M
 reading-at-spec = tie.close (tie.spec read-at-requires next-place-requires returns)

@@ -1,0 +1,19 @@
+use mathlib.Core.Path.{refl, sym}
+use Rattle.listing.proofs.Next.{next-fits, not-twice}
+use borrow.Author.Needs.{needs}
+use Rattle.listing.proofs.put.Statement.{statement}
+use Rattle.listing.proofs.put.Tie as tie
+
+write-all-requires : tie.Need-write-all-requires
+write-all-requires c κs = search needs
+
+add-t6 : tie.Need-add-t6
+add-t6 c =
+    let a = c .before .before .before in
+    record { fits = next-fits (a .args .tape .now) (a .args .done) (a .args .bytes .now) (a .pre) }
+
+returns : tie.Need-returns
+returns c = (refl, sym (not-twice (c .write-all .result)))
+
+pub put-spec : {M : Type 1} → statement M
+put-spec = tie.close (tie.spec write-all-requires add-t6 returns)
