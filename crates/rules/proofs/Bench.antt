@@ -56,10 +56,10 @@ below l b (CarriedOut Sleep) long y h = refl
 below l b (CarriedOut Wake) long y h = refl
 below l b (CarriedOut ReadMakerDevice) long y h = refl
 below l b (CarriedOut ReadJedec) long y h = refl
-below l b (CarriedOut (Writes Program)) long y h = patched-below l _ _ _ y (omega arith) h
-below l b (CarriedOut (Writes (Erase Sector))) long y h = patched-below l _ _ _ y (omega arith) h
-below l b (CarriedOut (Writes (Erase Block32))) long y h = patched-below l _ _ _ y (omega arith) h
-below l b (CarriedOut (Writes (Erase Block64))) long y h = patched-below l _ _ _ y (omega arith) h
+below l b (CarriedOut (Writes Program)) long y h = patched-below l _ _ _ y (omega arith) (omega arith)
+below l b (CarriedOut (Writes (Erase Sector))) long y h = patched-below l _ _ _ y (omega arith) (omega arith)
+below l b (CarriedOut (Writes (Erase Block32))) long y h = patched-below l _ _ _ y (omega arith) (omega arith)
+below l b (CarriedOut (Writes (Erase Block64))) long y h = patched-below l _ _ _ y (omega arith) (omega arith)
 below l b (CarriedOut (Writes (Erase Chip))) long y h = absurd (omega arith)
 below l b (CarriedOut (Writes WriteStatus)) long y h = refl
 
