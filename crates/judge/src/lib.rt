@@ -89,7 +89,7 @@ pub fn first_protected(part: u32, setting: u8, start: usize, count: usize) -> Fo
 // ---- the tests, each by itself
 
 // The only maker of an ignored verdict.
-pub fn ignore(number: u8) -> Verdict
+fn ignore(number: u8) -> Verdict
     ensures { λ v. ⌜ v ≡ ignored number ⌝ }
 {
     Verdict::Ignored(Reason { number: number })

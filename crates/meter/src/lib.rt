@@ -68,7 +68,7 @@ fn fits_count(count: u32, n: usize) -> bool
     count as usize <= COUNT_LIMIT - n
 }
 
-// Refusal 7: no count plus n exceeds the limit.
+// No count plus so many exceeds the limit; else refusal 7.
 pub fn has_room(meter: Meter, more: usize) -> bool
     ensures { λ t. ⌜ t ≡ room meter more ⌝ }
 {

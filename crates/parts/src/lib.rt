@@ -1,4 +1,5 @@
-// What the code asks of a chip's description, by part number: a new chip is an arm in each of these, and no contract moves but that of `guard_bytes`, which gives two bytes.
+// What the code asks of a chip's description, by part number. A new chip is an arm in each of these; of the contracts only
+// that of `guard_bytes`, which gives two bytes, may have to move.
 use rules::Command;
 use rules::Regs;
 
@@ -11,7 +12,7 @@ ghost use Rattle.rules.specs.Part.{commandOf, shaped};
 ghost use Rattle.rules.specs.Parts.{isPart, partOf};
 ghost use Rattle.rules.specs.Job.{settingLimit};
 
-// Not refusal 1.
+// A part that there is; any other number is refusal 1.
 pub fn is_part(part: u32) -> bool
     ensures { λ r. ⌜ r ≡ isPart part ⌝ }
 {

@@ -29,7 +29,7 @@ pub fn flag_of(on: bool) -> u32
     if on { 1 } else { 0 }
 }
 
-pub fn status_of(regs: Regs) -> u32
+fn status_of(regs: Regs) -> u32
     ensures { λ t. ⌜ (t ≡ statusOf regs) × (t < 65536) ⌝ }
 {
     flag_of(regs.busy)
@@ -61,7 +61,7 @@ pub fn high_byte(regs: Regs) -> u8
     (status_of(regs) / 256) as u8
 }
 
-// Refusal 3, on the caller's own numbers.
+// Else refusal 3; judged on the caller's own numbers.
 pub fn well_formed(status_end: u32, kept: Kept) -> bool
     ensures { λ t. ⌜ t ≡ wellFormed «status_end» kept ⌝ }
 {

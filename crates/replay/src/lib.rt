@@ -19,9 +19,9 @@ ghost use Rattle.laws.specs.Room.{Room};
 ghost use Rattle.replay.specs.Playable.{Playable};
 
 // What a record changes besides the array.
-pub struct Playing {
-    pub regs: Regs,
-    pub meter: Meter,
+struct Playing {
+    regs: Regs,
+    meter: Meter,
 }
 
 // The transaction whose bytes lie in the tape after the record's four head bytes.
@@ -87,7 +87,7 @@ fn cycled(r: Regs, m: Meter) -> Playing
 }
 
 // The first n records.
-pub fn play_first(part: u32, start: Playing, array: &mut [u8], tape: &[u8], count: usize) -> Playing
+fn play_first(part: u32, start: Playing, array: &mut [u8], tape: &[u8], count: usize) -> Playing
     requires { ⌜ (length (now array) ≡ partOf part .size) × Playable (now tape) count × Room (start .meter) count ⌝ }
     ensures { λ t. ⌜ state (t .regs) (now (array .exit)) (t .meter) ≡ play (partOf part) (recsFrom (now (tape .entry)) 0 count) (state (start .regs) (now (array .entry)) (start .meter)) ⌝ }
 {

@@ -73,14 +73,14 @@ recsOf t = recsFrom t 0 (records t)
 
 -- ---- faults
 
--- not 30
+-- whole records; else 30
 abbrev pub whole : List ℕ → Bool
 whole t = length t % recordLength =? 0
 
 abbrev pub isZero : List ℕ → ℕ → Bool
 isZero t x = getD t x 0 =? 0
 
--- not 31: "length over 260, kind over 2, byte 3 over 15, a byte after its length not 0, or kind 1 or 2 with anything else not 0"
+-- a record is good, or else 31: "length over 260, kind over 2, byte 3 over 15, a byte after its length not 0, or kind 1 or 2 with anything else not 0"
 unfoldable pub goodRecord : List ℕ → ℕ → Bool
 goodRecord t p =
     (lengthAt t p ≤? sentLimit)
