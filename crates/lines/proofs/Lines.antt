@@ -30,7 +30,7 @@ use Rattle.lines.proofs.Told.{listing-is}
 -- ---- a tape without a fault
 
 -- what `faultOf` lets pass
-pub record Clean (t : List ℕ) : Type 0 where
+pub record Listable (t : List ℕ) : Type 0 where
   pub short : length t ≤ listingLimit
   pub whole-records : whole t ≡ true
   pub good : firstBad t ≡ Nothing
@@ -40,12 +40,12 @@ no e =
     let z : _≡_ {A = ℕ} 0 1 = ap flag e in
     absurd (omega arith)
 
-pub clean : (t : List ℕ) → accepted (faultOf t) ≡ true → Clean t
+pub listable : (t : List ℕ) → accepted (faultOf t) ≡ true → Listable t
 unfolding faultOf if_then_else_
-clean t e = go (listingLimit <? length t) (whole t) (firstBad t) refl refl refl e
+listable t e = go (listingLimit <? length t) (whole t) (firstBad t) refl refl refl e
   where
     go : (a w : Bool) (f : Found) → (listingLimit <? length t) ≡ a → whole t ≡ w → firstBad t ≡ f
-        → accepted (if a || not w then refusal 30 else badRecord f) ≡ true → Clean t
+        → accepted (if a || not w then refusal 30 else badRecord f) ≡ true → Listable t
     go true w f h k g e = no e
     go false false f h k g e = no e
     go false true (At i) h k g e = no e
@@ -54,18 +54,18 @@ clean t e = go (listingLimit <? length t) (whole t) (firstBad t) refl refl refl 
 -- ---- a record of it
 
 -- a read there is what the record says
-pub read-there : (t : List ℕ) (p : ℕ) → Clean t → p < records t → readAt t p ≡ saidAt t p
+pub read-there : (t : List ℕ) (p : ℕ) → Listable t → p < records t → readAt t p ≡ saidAt t p
 unfolding firstBad
 read-there t p c h =
     read-said t p (c .whole-records) h
     (not-false (goodRecord t p) (first-none (λ (x : ℕ). not (goodRecord t x)) 0 (records t) (c .good) p (omega arith) (omega arith)))
 
-pub next-there : (t : List ℕ) (p : ℕ) → Clean t → p < records t → readOf t p .next ≡ p + 1
+pub next-there : (t : List ℕ) (p : ℕ) → Listable t → p < records t → readOf t p .next ≡ p + 1
 unfolding readOf
 next-there t p c h = sym (next-told p (readAt t p)) ∙ ap (nextPlace p) (read-there t p c h) ∙ said-moves t p
 
 -- and its line is the record's
-pub line-there : (t : List ℕ) (p : ℕ) → Clean t → p < records t → lineOf t p (readAt t p) ≡ recordLine t p
+pub line-there : (t : List ℕ) (p : ℕ) → Listable t → p < records t → lineOf t p (readAt t p) ≡ recordLine t p
 unfolding recordLine saidAt if_then_else_
 line-there t p c h = rw (read-there t p c h) (go (eqb (kindAt t p) 0) (eqb (kindAt t p) 1))
   where
@@ -79,7 +79,7 @@ line-there t p c h = rw (read-there t p c h) (go (eqb (kindAt t p) 0) (eqb (kind
 
 -- ---- after the last
 
-pub line-past : (t : List ℕ) (p : ℕ) → Clean t → records t ≤ p → lineOf t p (readAt t p) ≡ []
+pub line-past : (t : List ℕ) (p : ℕ) → Listable t → records t ≤ p → lineOf t p (readAt t p) ≡ []
 unfolding readAt if_then_else_
 line-past t p c h = rw (c .whole-records, le-leb (records t) p h)
 
@@ -153,5 +153,5 @@ unfolding refusedLine
 listing-short t = go (accepted (faultOf t)) refl
   where
     go : (b : Bool) → accepted (faultOf t) ≡ b → length (listingOf t) ≤ 3472
-    go true e = omega (arith, ap length (listing-clean t e), lines-length t 0 (records t), clean t e .short)
+    go true e = omega (arith, ap length (listing-clean t e), lines-length t 0 (records t), listable t e .short)
     go false e = omega (arith, ap length (listing-refused t e))
