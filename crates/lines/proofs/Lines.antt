@@ -1,11 +1,10 @@
 -- The lines of a tape without a fault: which record each is, how long they are, and what is left after some.
 use mathlib.Core.Path.{_≡_, refl, sym, ap, _∙_}
-use mathlib.Core.Bool.{Bool, true, false, not, _||_}
+use mathlib.Core.Bool.{Bool, true, false, true≢false, not, _||_}
 use mathlib.Core.List.{List, [], _∷_, _++_, append-assoc}
 use Prim.Native.Nat.{ℕ, zero, suc, _+_, _-_, _*_, _≤_, _<_}
 use native.Mathlib.Omega.{arith}
 use native.Mathlib.Nat.{add-zero, zero-add, suc-add}
-use native.Mathlib.Numerals.{add-one}
 use lib.Dec.{eqb}
 use lib.ListN.{length, getD, length-append}
 use borrow.Author.Tests.{le-leb, ltb-false, not-false}
@@ -15,11 +14,9 @@ use Rattle.lists.specs.declared.Found.the-variants.{At, Nothing}
 use Rattle.lists.proofs.Search.{first-none}
 use Rattle.rules.specs.declared.AtPlace.{AtPlace}
 use Rattle.rules.specs.declared.AtPlace.the-variants.{Transaction, Finish, PowerCycle, End, Fault}
-use Rattle.rules.specs.declared.Sent.{Sent}
-use Rattle.rules.specs.Listing.{listingLimit, digits3, digits4, hex2, space, lineFeed, transactionText, recordText, recordLine, linesFrom, refusedLine, listingOf}
+use Rattle.rules.specs.Listing.{listingLimit, digits3, hex2, space, lineFeed, recordText, recordLine, linesFrom, refusedLine, listingOf}
 use Rattle.rules.specs.Refusals.{refusal, accepted}
 use Rattle.rules.specs.Replay.{badRecord}
-use Rattle.rules.specs.Status.{flag}
 use Rattle.rules.specs.Tape.{kindAt, sentAt, records, whole, goodRecord, firstBad, readAt, nextPlace, readOf}
 use Rattle.tape.specs.Record.{saidAt}
 use Rattle.tape.proofs.Said.{read-said, said-moves, next-told}
@@ -35,20 +32,15 @@ pub record Listable (t : List ℕ) : Type 0 where
   pub whole-records : whole t ≡ true
   pub good : firstBad t ≡ Nothing
 
-no : {A : Type 0} → false ≡ true → A
-no e =
-    let z : _≡_ {A = ℕ} 0 1 = ap flag e in
-    absurd (omega arith)
-
 pub listable : (t : List ℕ) → accepted (faultOf t) ≡ true → Listable t
 unfolding faultOf if_then_else_
 listable t e = go (listingLimit <? length t) (whole t) (firstBad t) refl refl refl e
   where
     go : (a w : Bool) (f : Found) → (listingLimit <? length t) ≡ a → whole t ≡ w → firstBad t ≡ f
         → accepted (if a || not w then refusal 30 else badRecord f) ≡ true → Listable t
-    go true w f h k g e = no e
-    go false false f h k g e = no e
-    go false true (At i) h k g e = no e
+    go true w f h k g e = absurd (true≢false (sym e))
+    go false false f h k g e = absurd (true≢false (sym e))
+    go false true (At i) h k g e = absurd (true≢false (sym e))
     go false true Nothing h k g e = record { short = ltb-false listingLimit (length t) h; whole-records = k; good = g }
 
 -- ---- a record of it

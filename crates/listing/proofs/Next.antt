@@ -1,6 +1,6 @@
 -- What comes next in the listing: the line of the record that the reader is at, or the one line of a fault.
 use mathlib.Core.Path.{_≡_, refl, sym, ap, _∙_}
-use mathlib.Core.Bool.{Bool, true, false, not}
+use mathlib.Core.Bool.{Bool, true, false, true≢false, not}
 use mathlib.Core.List.{List, [], _++_, append-nil}
 use Prim.Native.Nat.{ℕ, suc, _+_, _-_, _≤_, _<_, _^_}
 use native.Mathlib.Omega.{arith}
@@ -12,7 +12,6 @@ use Rattle.rules.specs.declared.AtPlace.{AtPlace}
 use Rattle.rules.specs.declared.Refusal.{Refusal}
 use Rattle.rules.specs.Listing.{recordLine, linesFrom, refusedLine, listingOf}
 use Rattle.rules.specs.Refusals.{accepted}
-use Rattle.rules.specs.Status.{flag}
 use Rattle.rules.specs.Tape.{records, readAt, readTold, readOf}
 use Rattle.tape.proofs.Said.{read-is}
 use Rattle.lines.specs.Fault.{faultOf}
@@ -20,11 +19,6 @@ use Rattle.lines.specs.Line.{lineOf}
 use Rattle.lines.proofs.Lines.{listable, line-there, line-past, line-length, lines-at, line-more, listing-clean, listing-refused, listing-short}
 use Rattle.listing.specs.declared.Handed.{Handed}
 use Rattle.listing.specs.Handed.{Next, Come, AllHanded, Gone}
-
-no : {A : Type 0} → true ≡ false → A
-no e =
-    let z : _≡_ {A = ℕ} 1 0 = ap flag e in
-    absurd (omega arith)
 
 pub not-twice : (b : Bool) → not (not b) ≡ b
 not-twice true = refl
@@ -99,12 +93,12 @@ pub told-last : (t : List ℕ) (p n : ℕ) → Come t p n → records t ≤ p �
 told-last t p n come h =
     let e : p ≡ records t = omega (arith, come .within) in
     record {
-      on = λ k. no (sym k);
+      on = λ k. absurd (true≢false (sym k));
       over = λ k f. come .long ∙ ap (λ (m : ℕ). length (linesFrom t 0 m)) e ∙ ap length (sym (listing-clean t (come .sound)));
     }
 
 pub told-record : (t : List ℕ) (p n : ℕ) (h : Handed) → Come t p n → p < records t → h .bytes ≡ n + length (recordLine t p) → h .more ≡ not (h .failed) → Gone t p h
 told-record t p n h come l b m = record {
   on = λ k. (l, b ∙ ap (λ (x : ℕ). x + length (recordLine t p)) (come .long) ∙ sym (line-more t p));
-  over = λ k f. no (sym (ap not f) ∙ sym m ∙ k);
+  over = λ k f. absurd (true≢false (sym (ap not f) ∙ sym m ∙ k));
 }

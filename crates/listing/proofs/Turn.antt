@@ -1,10 +1,9 @@
 -- One turn of the listing: what holds before it holds after it, one record on or at the end.
-use mathlib.Core.Path.{_≡_, refl, sym, ap, _∙_}
-use mathlib.Core.Bool.{Bool, true, false}
+use mathlib.Core.Path.{_≡_, refl}
+use mathlib.Core.Bool.{Bool, true, false, true≢false}
 use mathlib.Core.List.{List}
-use Prim.Native.Nat.{ℕ, suc, _+_, _-_, _<_, _^_}
+use Prim.Native.Nat.{ℕ, suc, _-_, _<_, _^_}
 use native.Mathlib.Omega.{arith}
-use Rattle.rules.specs.Status.{flag}
 use Rattle.rules.specs.Tape.{records, readOf}
 use Rattle.lines.proofs.Lines.{listable, next-there}
 use Rattle.listing.specs.declared.Handed.{Handed}
@@ -18,12 +17,7 @@ pub record Holds (t : List ℕ) (p : ℕ) (h : Handed) : Type 0 where
 
 -- at the first turn
 pub begins : (t : List ℕ) (p n : ℕ) → n < 2 ^ 64 → Come t p n → Holds t p (record { bytes = n; more = true; failed = false })
-begins t p n fits come = record { fits = fits; on = λ e. come; over = λ e. no e }
-  where
-    no : {A : Type 0} → true ≡ false → A
-    no e =
-        let z : _≡_ {A = ℕ} 1 0 = ap flag e in
-        absurd (omega arith)
+begins t p n fits come = record { fits = fits; on = λ e. come; over = λ e. absurd (true≢false e) }
 
 -- after a turn in which record p was told
 pub goes-on : (t : List ℕ) (p n : ℕ) (h : Handed) → Come t p n → Gone t p h → h .bytes < 2 ^ 64 → Holds t (readOf t p .next) h

@@ -6,7 +6,7 @@ use rules::AtPlace;
 use rules::LISTING_LIMIT;
 use tape::Reader;
 ghost use mathlib.Core.Path.{_≡_};
-ghost use mathlib.Core.Bool.{not, false};
+ghost use mathlib.Core.Bool.{not};
 ghost use Prim.Native.Nat.{_+_};
 ghost use lib.ListN.{length};
 ghost use Rattle.rules.specs.Listing.{listingOf};
