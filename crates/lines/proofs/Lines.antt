@@ -1,11 +1,10 @@
 -- The lines of a tape without a fault: which record each is, how long they are, and what is left after some.
 use mathlib.Core.Path.{_≡_, refl, sym, ap, _∙_}
-use mathlib.Core.Bool.{Bool, true, false, not, _||_}
+use mathlib.Core.Bool.{Bool, true, false, true≢false, not, _||_}
 use mathlib.Core.List.{List, [], _∷_, _++_, append-assoc}
 use Prim.Native.Nat.{ℕ, zero, suc, _+_, _-_, _*_, _≤_, _<_}
 use native.Mathlib.Omega.{arith}
 use native.Mathlib.Nat.{add-zero, zero-add, suc-add}
-use native.Mathlib.Numerals.{add-one}
 use lib.Dec.{eqb}
 use lib.ListN.{length, getD, length-append}
 use borrow.Author.Tests.{le-leb, ltb-false, not-false}
@@ -15,11 +14,9 @@ use Rattle.lists.specs.declared.Found.the-variants.{At, Nothing}
 use Rattle.lists.proofs.Search.{first-none}
 use Rattle.rules.specs.declared.AtPlace.{AtPlace}
 use Rattle.rules.specs.declared.AtPlace.the-variants.{Transaction, Finish, PowerCycle, End, Fault}
-use Rattle.rules.specs.declared.Sent.{Sent}
-use Rattle.rules.specs.Listing.{listingLimit, digits3, digits4, hex2, space, lineFeed, transactionText, recordText, recordLine, linesFrom, refusedLine, listingOf}
+use Rattle.rules.specs.Listing.{listingLimit, digits3, hex2, space, lineFeed, recordText, recordLine, linesFrom, refusedLine, listingOf}
 use Rattle.rules.specs.Refusals.{refusal, accepted}
 use Rattle.rules.specs.Replay.{badRecord}
-use Rattle.rules.specs.Status.{flag}
 use Rattle.rules.specs.Tape.{kindAt, records, whole, goodRecord, firstBad}
 use Rattle.rules.specs.Reading.{sentAt, readAt, nextPlace, readOf}
 use Rattle.tape.specs.Record.{saidAt}
@@ -31,42 +28,37 @@ use Rattle.lines.proofs.Told.{listing-is}
 -- ---- a tape without a fault
 
 -- what `faultOf` lets pass
-pub record Clean (t : List ℕ) : Type 0 where
+pub record Listable (t : List ℕ) : Type 0 where
   pub short : length t ≤ listingLimit
   pub whole-records : whole t ≡ true
   pub good : firstBad t ≡ Nothing
 
-no : {A : Type 0} → false ≡ true → A
-no e =
-    let z : _≡_ {A = ℕ} 0 1 = ap flag e in
-    absurd (omega arith)
-
-pub clean : (t : List ℕ) → accepted (faultOf t) ≡ true → Clean t
+pub listable : (t : List ℕ) → accepted (faultOf t) ≡ true → Listable t
 unfolding faultOf if_then_else_
-clean t e = go (listingLimit <? length t) (whole t) (firstBad t) refl refl refl e
+listable t e = go (listingLimit <? length t) (whole t) (firstBad t) refl refl refl e
   where
     go : (a w : Bool) (f : Found) → (listingLimit <? length t) ≡ a → whole t ≡ w → firstBad t ≡ f
-        → accepted (if a || not w then refusal 30 else badRecord f) ≡ true → Clean t
-    go true w f h k g e = no e
-    go false false f h k g e = no e
-    go false true (At i) h k g e = no e
+        → accepted (if a || not w then refusal 30 else badRecord f) ≡ true → Listable t
+    go true w f h k g e = absurd (true≢false (sym e))
+    go false false f h k g e = absurd (true≢false (sym e))
+    go false true (At i) h k g e = absurd (true≢false (sym e))
     go false true Nothing h k g e = record { short = ltb-false listingLimit (length t) h; whole-records = k; good = g }
 
 -- ---- a record of it
 
 -- a read there is what the record says
-pub read-there : (t : List ℕ) (p : ℕ) → Clean t → p < records t → readAt t p ≡ saidAt t p
+pub read-there : (t : List ℕ) (p : ℕ) → Listable t → p < records t → readAt t p ≡ saidAt t p
 unfolding firstBad
 read-there t p c h =
     read-said t p (c .whole-records) h
     (not-false (goodRecord t p) (first-none (λ (x : ℕ). not (goodRecord t x)) 0 (records t) (c .good) p (omega arith) (omega arith)))
 
-pub next-there : (t : List ℕ) (p : ℕ) → Clean t → p < records t → readOf t p .next ≡ p + 1
+pub next-there : (t : List ℕ) (p : ℕ) → Listable t → p < records t → readOf t p .next ≡ p + 1
 unfolding readOf
 next-there t p c h = sym (next-told p (readAt t p)) ∙ ap (nextPlace p) (read-there t p c h) ∙ said-moves t p
 
 -- and its line is the record's
-pub line-there : (t : List ℕ) (p : ℕ) → Clean t → p < records t → lineOf t p (readAt t p) ≡ recordLine t p
+pub line-there : (t : List ℕ) (p : ℕ) → Listable t → p < records t → lineOf t p (readAt t p) ≡ recordLine t p
 unfolding recordLine saidAt if_then_else_
 line-there t p c h = rw (read-there t p c h) (go (eqb (kindAt t p) 0) (eqb (kindAt t p) 1))
   where
@@ -80,7 +72,7 @@ line-there t p c h = rw (read-there t p c h) (go (eqb (kindAt t p) 0) (eqb (kind
 
 -- ---- after the last
 
-pub line-past : (t : List ℕ) (p : ℕ) → Clean t → records t ≤ p → lineOf t p (readAt t p) ≡ []
+pub line-past : (t : List ℕ) (p : ℕ) → Listable t → records t ≤ p → lineOf t p (readAt t p) ≡ []
 unfolding readAt if_then_else_
 line-past t p c h = rw (c .whole-records, le-leb (records t) p h)
 
@@ -154,5 +146,5 @@ unfolding refusedLine
 listing-short t = go (accepted (faultOf t)) refl
   where
     go : (b : Bool) → accepted (faultOf t) ≡ b → length (listingOf t) ≤ 3472
-    go true e = omega (arith, ap length (listing-clean t e), lines-length t 0 (records t), clean t e .short)
+    go true e = omega (arith, ap length (listing-clean t e), lines-length t 0 (records t), listable t e .short)
     go false e = omega (arith, ap length (listing-refused t e))

@@ -14,6 +14,11 @@ ghost use Rattle.rules.specs.Tape.{whole};
 ghost use Rattle.lines.specs.Fault.{faultOf};
 ghost use Rattle.lines.specs.Line.{recordWidth, refusedWidth, indexed, lineOf, Laid};
 
+// Room for any record's line, and for a fault's.
+pub const RECORD_WIDTH: usize = 14;
+
+pub const REFUSED_WIDTH: usize = 16;
+
 // ---- digits, as bytes of text
 
 fn digit(n: usize) -> u8

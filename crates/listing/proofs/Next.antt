@@ -1,39 +1,33 @@
 -- What comes next in the listing: the line of the record that the reader is at, or the one line of a fault.
 use mathlib.Core.Path.{_≡_, refl, sym, ap, _∙_}
-use mathlib.Core.Bool.{Bool, true, false, not}
+use mathlib.Core.Bool.{Bool, true, false, true≢false, not}
 use mathlib.Core.List.{List, [], _++_, append-nil}
 use Prim.Native.Nat.{ℕ, suc, _+_, _-_, _≤_, _<_, _^_}
 use native.Mathlib.Omega.{arith}
 use native.Mathlib.Nat.{zero-add}
 use lib.Dec.{ltb}
 use lib.ListN.{length, length-append}
-use borrow.Author.Tests.{ltb-true, ltb-false}
+use borrow.Author.Tests.{ltb-true, ltb-false, eq-eqb, ne-eqb}
 use Rattle.rules.specs.declared.AtPlace.{AtPlace}
 use Rattle.rules.specs.declared.Refusal.{Refusal}
 use Rattle.rules.specs.Listing.{recordLine, linesFrom, refusedLine, listingOf}
 use Rattle.rules.specs.Refusals.{accepted}
-use Rattle.rules.specs.Status.{flag}
 use Rattle.rules.specs.Tape.{records}
 use Rattle.rules.specs.Reading.{readAt, readTold, readOf}
 use Rattle.tape.proofs.Said.{read-is}
 use Rattle.lines.specs.Fault.{faultOf}
 use Rattle.lines.specs.Line.{lineOf}
-use Rattle.lines.proofs.Lines.{clean, line-there, line-past, line-length, lines-at, line-more, listing-clean, listing-refused, listing-short}
+use Rattle.lines.proofs.Lines.{listable, line-there, line-past, line-length, lines-at, line-more, listing-clean, listing-refused, listing-short}
 use Rattle.listing.specs.declared.Handed.{Handed}
-use Rattle.listing.specs.Handed.{Next, Come, Whole, Told}
-
-no : {A : Type 0} → true ≡ false → A
-no e =
-    let z : _≡_ {A = ℕ} 1 0 = ap flag e in
-    absurd (omega arith)
+use Rattle.listing.specs.Handed.{Next, Come, AllHanded, Gone}
 
 pub not-twice : (b : Bool) → not (not b) ≡ b
 not-twice true = refl
 not-twice false = refl
 
 -- the listing of a tape with a fault
-refused : (t : List ℕ) (z : Refusal) → z ≡ faultOf t → accepted z ≡ false → listingOf t ≡ refusedLine (z .number) (z .index)
-refused t z e h = listing-refused t (ap accepted (sym e) ∙ h) ∙ ap (λ (x : Refusal). refusedLine (x .number) (x .index)) (sym e)
+refused : (t : List ℕ) (z : Refusal) → z ≡ faultOf t → 0 < z .number → listingOf t ≡ refusedLine (z .number) (z .index)
+refused t z e h = listing-refused t (ap accepted (sym e) ∙ ne-eqb (z .number) 0 (λ k. absurd (omega (arith, k, h)))) ∙ ap (λ (x : Refusal). refusedLine (x .number) (x .index)) (sym e)
 
 -- ---- some bytes of the listing
 
@@ -52,7 +46,7 @@ record-next t p n b come h e = record {
 }
 
 -- the one line of a fault
-pub refusal-next : (t : List ℕ) (z : Refusal) (b : List ℕ) → z ≡ faultOf t → accepted z ≡ false → b ≡ refusedLine (z .number) (z .index) → Next (listingOf t) 0 b
+pub refusal-next : (t : List ℕ) (z : Refusal) (b : List ℕ) → z ≡ faultOf t → 0 < z .number → b ≡ refusedLine (z .number) (z .index) → Next (listingOf t) 0 b
 refusal-next t z b e h k = record {
   before = [];
   after = [];
@@ -60,8 +54,12 @@ refusal-next t z b e h k = record {
   is = refused t z e h ∙ sym k ∙ sym (append-nil b);
 }
 
-pub refusal-whole : (t : List ℕ) (z : Refusal) (b : List ℕ) (h : Handed) → z ≡ faultOf t → accepted z ≡ false → b ≡ refusedLine (z .number) (z .index) → h .bytes ≡ 0 + length b → Whole t h
+pub refusal-whole : (t : List ℕ) (z : Refusal) (b : List ℕ) (h : Handed) → z ≡ faultOf t → 0 < z .number → b ≡ refusedLine (z .number) (z .index) → h .bytes ≡ 0 + length b → AllHanded t h
 refusal-whole t z b h e f k w g = w ∙ zero-add (length b) ∙ ap length (k ∙ sym (refused t z e f))
+
+-- a tape without one
+pub no-fault : (t : List ℕ) (z : Refusal) → z ≡ faultOf t → z .number ≡ 0 → accepted (faultOf t) ≡ true
+no-fault t z e h = ap accepted (sym e) ∙ eq-eqb (z .number) 0 h
 
 -- ---- what the reader found at p
 
@@ -75,10 +73,10 @@ there t p n a e come h = go (ltb p (records t)) refl
     go : (b : Bool) → ltb p (records t) ≡ b → (p < records t) × (lineOf t p a ≡ recordLine t p)
     go true k =
         let l = ltb-true p (records t) k in
-        (l, is ∙ line-there t p (clean t (come .sound)) l)
+        (l, is ∙ line-there t p (listable t (come .sound)) l)
     go false k =
         let l = ltb-false p (records t) k in
-        absurd (omega (arith, ap length (is ∙ line-past t p (clean t (come .sound)) l)))
+        absurd (omega (arith, ap length (is ∙ line-past t p (listable t (come .sound)) l)))
 
 -- an empty one is the end
 pub past : (t : List ℕ) (p n : ℕ) (a : AtPlace) → readTold p a ≡ readOf t p → Come t p n → length (lineOf t p a) ≡ 0 → records t ≤ p
@@ -88,20 +86,20 @@ past t p n a e come h = go (ltb p (records t)) refl
     go false k = ltb-false p (records t) k
     go true k =
         let l = ltb-true p (records t) k in
-        absurd (omega (arith, h, line-length t p .0, ap length (ap (lineOf t p) (read-is t p a e) ∙ line-there t p (clean t (come .sound)) l)))
+        absurd (omega (arith, h, line-length t p .0, ap length (ap (lineOf t p) (read-is t p a e) ∙ line-there t p (listable t (come .sound)) l)))
 
 -- ---- what was told
 
-pub told-last : (t : List ℕ) (p n : ℕ) → Come t p n → records t ≤ p → Told t p (record { bytes = n; more = false; failed = false })
+pub told-last : (t : List ℕ) (p n : ℕ) → Come t p n → records t ≤ p → Gone t p (record { bytes = n; more = false; failed = false })
 told-last t p n come h =
     let e : p ≡ records t = omega (arith, come .within) in
     record {
-      on = λ k. no (sym k);
+      on = λ k. absurd (true≢false (sym k));
       over = λ k f. come .long ∙ ap (λ (m : ℕ). length (linesFrom t 0 m)) e ∙ ap length (sym (listing-clean t (come .sound)));
     }
 
-pub told-record : (t : List ℕ) (p n : ℕ) (h : Handed) → Come t p n → p < records t → h .bytes ≡ n + length (recordLine t p) → h .more ≡ not (h .failed) → Told t p h
+pub told-record : (t : List ℕ) (p n : ℕ) (h : Handed) → Come t p n → p < records t → h .bytes ≡ n + length (recordLine t p) → h .more ≡ not (h .failed) → Gone t p h
 told-record t p n h come l b m = record {
   on = λ k. (l, b ∙ ap (λ (x : ℕ). x + length (recordLine t p)) (come .long) ∙ sym (line-more t p));
-  over = λ k f. no (sym (ap not f) ∙ sym m ∙ k);
+  over = λ k f. absurd (true≢false (sym (ap not f) ∙ sym m ∙ k));
 }

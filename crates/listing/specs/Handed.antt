@@ -24,10 +24,10 @@ pub record Come (t : List ℕ) (p n : ℕ) : Type 0 where
   pub long : n ≡ length (linesFrom t 0 p)
 
 -- if no write failed, every byte of the listing was handed over
-abbrev pub Whole : List ℕ → Handed → Type 0
-Whole t h = h .failed ≡ false → h .bytes ≡ length (listingOf t)
+abbrev pub AllHanded : List ℕ → Handed → Type 0
+AllHanded t h = h .failed ≡ false → h .bytes ≡ length (listingOf t)
 
--- record p was told, and the records before the next one take so many bytes; or there is none left
-pub record Told (t : List ℕ) (p : ℕ) (h : Handed) : Type 0 where
+-- after record p: it was told, and with it the lines take so many bytes; or none was left to tell
+pub record Gone (t : List ℕ) (p : ℕ) (h : Handed) : Type 0 where
   pub on : h .more ≡ true → (p < records t) × (h .bytes ≡ length (linesFrom t 0 (p + 1)))
-  pub over : h .more ≡ false → Whole t h
+  pub over : h .more ≡ false → AllHanded t h

@@ -1,14 +1,17 @@
 // The listing program: a tape on standard input, a line a record on standard output.
 // Its lines, and what it refuses, are made by `lines`; here they are handed over, each in its turn.
+use lines::RECORD_WIDTH;
+use lines::REFUSED_WIDTH;
 use rules::AtPlace;
+use rules::LISTING_LIMIT;
 use tape::Reader;
 ghost use mathlib.Core.Path.{_≡_};
-ghost use mathlib.Core.Bool.{not, false};
+ghost use mathlib.Core.Bool.{not};
 ghost use Prim.Native.Nat.{_+_};
 ghost use lib.ListN.{length};
 ghost use Rattle.rules.specs.Listing.{listingOf};
 ghost use Rattle.rules.specs.Reading.{readTold, readOf};
-ghost use Rattle.listing.specs.Handed.{Next, Come, Told, Whole};
+ghost use Rattle.listing.specs.Handed.{Next, Come, Gone, AllHanded};
 
 // What was handed to standard output: how many bytes, whether more may follow, and whether a write failed.
 struct Handed {
@@ -17,7 +20,7 @@ struct Handed {
     failed: bool,
 }
 
-// The only writer. It takes no bytes but those of the tape's listing that come after the first `done`.
+// The only writer. It takes no bytes but those of the tape's listing that come after the first `done`; the tape is there for that alone.
 fn put(tape: &[u8], done: usize, bytes: &[u8]) -> Handed
     requires { ⌜ Next (listingOf (now tape)) done (now bytes) ⌝ }
     ensures { λ h. ⌜ (h .bytes ≡ done + length (now (bytes .entry))) × (h .more ≡ not (h .failed)) ⌝ }
@@ -33,9 +36,9 @@ fn put(tape: &[u8], done: usize, bytes: &[u8]) -> Handed
 // The line of what the reader found at a place. Where it found the end there is none, and no more follows.
 fn tell(tape: &[u8], place: usize, found: AtPlace, done: usize) -> Handed
     requires { ⌜ (readTold place found ≡ readOf (now tape) place) × Come (now tape) place done ⌝ }
-    ensures { λ h. ⌜ Told (now (tape .entry)) place h ⌝ }
+    ensures { λ h. ⌜ Gone (now (tape .entry)) place h ⌝ }
 {
-    let mut line = [0u8; 16];
+    let mut line = [0u8; RECORD_WIDTH];
     let n = lines::record_line(tape, place, found, &mut line);
     if n == 0 {
         return Handed {
@@ -50,7 +53,7 @@ fn tell(tape: &[u8], place: usize, found: AtPlace, done: usize) -> Handed
 // One reader goes from a record to the end, and each record is told in its turn.
 fn list_from(tape: &[u8], place: usize, done: usize) -> Handed
     requires { ⌜ Come (now tape) place done ⌝ }
-    ensures { λ h. ⌜ Whole (now (tape .entry)) h ⌝ }
+    ensures { λ h. ⌜ AllHanded (now (tape .entry)) h ⌝ }
 {
     let mut reader = Reader { bytes: tape, place };
     let mut handed = Handed {
@@ -68,21 +71,21 @@ fn list_from(tape: &[u8], place: usize, done: usize) -> Handed
 
 // The one line of a fault; or, of a tape without one, every record's line.
 fn list(tape: &[u8]) -> Handed
-    ensures { λ h. ⌜ Whole (now (tape .entry)) h ⌝ }
+    ensures { λ h. ⌜ AllHanded (now (tape .entry)) h ⌝ }
 {
     let fault = lines::fault_of(tape);
     let number = fault.number;
     if number != 0 {
-        let mut line = [0u8; 16];
+        let mut line = [0u8; REFUSED_WIDTH];
         let n = lines::refused_line(number, fault.index, &mut line);
         return put(tape, 0, &line[..n]);
     }
     list_from(tape, 0, 0)
 }
 
-// One byte more than a tape may have, so that a longer one is seen. With the line, 65,489 bytes: within 64 KiB.
+// One byte more than a tape may have, so that a longer one is seen. With both lines, 65,503 bytes: within 64 KiB.
 fn main() {
-    let mut tape = [0u8; 65473];
+    let mut tape = [0u8; LISTING_LIMIT + 1];
     let n = io::read_full(0, &mut tape);
     list(&tape[..n]);
 }

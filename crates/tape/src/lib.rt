@@ -17,7 +17,7 @@ ghost use Rattle.tape.specs.Record.{headGood, saidAt};
 
 // ---- the whole tape
 
-// Not 30.
+// A tape that 30 lets pass.
 pub fn is_whole(tape: &[u8]) -> bool
     ensures { λ r. ⌜ r ≡ whole (now (tape .entry)) ⌝ }
 {
@@ -68,7 +68,7 @@ fn sent_length(tape: &[u8], place: usize) -> usize
     tape[at] as usize * 256 + tape[at + 1] as usize
 }
 
-// What 31 asks of the four head bytes.
+// Four head bytes that 31 lets pass.
 fn is_good_head(n: usize, kind: u8, bits: u8) -> bool
     ensures { λ r. ⌜ r ≡ headGood n kind bits ⌝ }
 {
@@ -90,7 +90,7 @@ fn is_good_head(n: usize, kind: u8, bits: u8) -> bool
     bits == 0
 }
 
-// Not 31.
+// A record that 31 lets pass.
 fn is_good(tape: &[u8], place: usize) -> bool
     requires { ⌜ place < records (now tape) ⌝ }
     ensures { λ r. ⌜ r ≡ goodRecord (now (tape .entry)) place ⌝ }

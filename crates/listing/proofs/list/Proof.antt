@@ -1,14 +1,8 @@
-use mathlib.Core.Path.{_≡_, refl, sym, ap, _∙_}
-use mathlib.Core.List.{List}
-use Prim.Native.Nat.{ℕ, _+_}
 use native.Mathlib.Omega.{arith}
-use lib.ListN.{length}
-use borrow.Author.Tests.{eq-eqb, ne-eqb}
-use Rattle.rules.specs.declared.Refusal.{Refusal}
 use Rattle.rules.specs.Listing.{linesFrom}
-use Rattle.rules.specs.Refusals.{accepted}
+use mathlib.Core.Path.{refl}
 use Rattle.lines.proofs.Laid.{laid-within, laid-count, laid-text}
-use Rattle.listing.proofs.Next.{refusal-next, refusal-whole}
+use Rattle.listing.proofs.Next.{refusal-next, refusal-whole, no-fault}
 use borrow.Author.Needs.{needs}
 use Rattle.listing.proofs.list.Statement.{statement}
 use Rattle.listing.proofs.list.Tie as tie
@@ -31,17 +25,18 @@ slice-aggregate-put c = laid-count (c .before .before .refused-line .ensures)
 put-requires : tie.Need-put-requires
 put-requires c κs =
     let f = c .before .before .before .before .before .fault-of in
-    refusal-next _ (f .result) _ (f .ensures) (ne-eqb _ _ (c .before .before .before .before .if1 .taken)) (laid-text (c .before .before .refused-line .ensures))
+    refusal-next _ (f .result) _ (f .ensures) (omega (arith, c .before .before .before .before .if1 .taken)) (laid-text (c .before .before .refused-line .ensures))
 
 returns : tie.Need-returns
 returns c =
     let f = c .before .before .before .before .before .before .fault-of in
-    refusal-whole _ (f .result) _ (c .put .result) (f .ensures) (ne-eqb _ _ (c .before .before .before .before .before .if1 .taken)) (laid-text (c .before .before .before .refused-line .ensures)) (c .put .ensures .0)
+    refusal-whole _ (f .result) _ (c .put .result) (f .ensures) (omega (arith, c .before .before .before .before .before .if1 .taken)) (laid-text (c .before .before .before .refused-line .ensures)) (c .put .ensures .0)
 
 list-from-requires : tie.Need-list-from-requires
 unfolding linesFrom
 list-from-requires c κs =
-    record { sound = ap accepted (sym (c .before .fault-of .ensures)) ∙ eq-eqb _ _ (c .if1 .left); within = omega arith; long = refl }
+    let f = c .before .fault-of in
+    record { sound = no-fault _ (f .result) (f .ensures) (omega (arith, c .if1 .left)); within = omega arith; long = refl }
 
 returns-2 : tie.Need-returns-2
 returns-2 c = search needs

@@ -1,11 +1,9 @@
-use mathlib.Core.Path.{_≡_, sym, ap, _∙_}
+use mathlib.Core.Path.{sym, ap, _∙_}
 use native.Mathlib.Omega.{arith}
-use Rattle.rules.specs.declared.AtPlace.{AtPlace}
 use Rattle.rules.specs.declared.AtPlace.the-variants.{Transaction, Finish, PowerCycle, End, Fault}
-use Rattle.rules.specs.Status.{flag}
-use Rattle.rules.specs.Reading.{ReadTold, readTold, readOf}
+use Rattle.rules.specs.Reading.{readTold}
 use Rattle.tunebriar.specs.CEntries.{tbRecord}
-use Rattle.tunebriar.proofs.Told.{sent-short, withNext, next-is}
+use Rattle.tunebriar.proofs.Told.{sent-short, next-is}
 use borrow.Author.Needs.{needs}
 use Rattle.tunebriar.proofs.tb_read.Statement.{statement}
 use Rattle.tunebriar.proofs.tb_read.Tie as tie
