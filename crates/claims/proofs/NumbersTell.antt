@@ -33,8 +33,7 @@ use Rattle.rules.specs.Job.{stepAt, stepCount}
 use Rattle.rules.specs.JobRefusals.{stepNumber, decodedNumber, settingAfter, stepsRefusal, jobRefusal}
 use Rattle.rules.specs.Translate.{translateRefusal, TranslateSeen, translateOf, BillTold, quoteOf}
 use Rattle.tunebriar.specs.CEntries.{tbEvent, tbBill, tbTransact, tbReplay, tbTranslate}
-use Rattle.claims.proofs.Choices.{either-true}
-use Rattle.claims.proofs.Choices.{never}
+use Rattle.claims.proofs.Choices.{either-true, never}
 use Rattle.claims.proofs.Ignored.{ignored-number}
 use Rattle.claims.proofs.Entry.{FirstSays, by-answer, answered-0}
 

@@ -1,6 +1,6 @@
 -- The pieces of the verdict, put together: the one equation that lets code judge by steps.
 use mathlib.Core.Path.{_≡_, refl, ap}
-use mathlib.Core.Bool.{Bool, true, false, not}
+use mathlib.Core.Bool.{Bool, not}
 use mathlib.Core.List.{List}
 use Prim.Native.Nat.{ℕ}
 use lib.ListN.{length, getD}
@@ -12,10 +12,9 @@ use Rattle.rules.specs.declared.Kind.{Kind}
 use Rattle.rules.specs.declared.Kind.the-variants.{WriteEnable, WriteDisable, ReadStatusLow, ReadStatusHigh, Read, FastRead, Sleep, Wake, ReadMakerDevice, ReadJedec, Writes}
 use Rattle.rules.specs.declared.Command.{Command}
 use Rattle.rules.specs.declared.Command.the-variants.{Known, Unknown}
-use Rattle.rules.specs.declared.Write.{Write}
 use Rattle.rules.specs.declared.Verdict.{Verdict}
 use Rattle.rules.specs.declared.Verdict.the-variants.{CarriedOut}
-use Rattle.rules.specs.Kinds.{ofWrite, ofKnown, ofWritten}
+use Rattle.rules.specs.Kinds.{ofWrite, ofKnown}
 use Rattle.rules.specs.Part.{Part, commandOf, shaped}
 use Rattle.rules.specs.Protection.{firstProtected, wasFound, someProtected}
 use Rattle.rules.specs.Writes.{reachStart, reachLength, lockedOut}

@@ -1,11 +1,10 @@
 use Rattle.rules.specs.Verdict.{verdictOf}
-use Rattle.rules.specs.Transact.{isHigh}
+use Rattle.rules.specs.Transact.{isHigh, transactTold, transactSeen}
 use Rattle.laws.proofs.Sound.{part-sound, size-some}
 use Rattle.lists.proofs.Lent.{put-front, front-long}
 use Rattle.rules.specs.declared.Regs.{Regs}
 use Rattle.laws.proofs.Answered.{transact-served, transact-refused, out-after}
 use Rattle.laws.proofs.Accepted.{Taken, taken}
-use Rattle.rules.specs.Transact.{transactTold, transactSeen}
 use Rattle.rules.specs.Transaction.{outAt, regsAfter}
 use Rattle.rules.specs.Status.{keptOf}
 use Rattle.rules.specs.Parts.{partOf}
