@@ -75,5 +75,5 @@ abbrev pub listed : List ℕ → Found → List ℕ
 listed t (At i) = refusedLine 31 i
 listed t Nothing = linesFrom t 0 (records t)
 
-unfoldable pub listingOf : List ℕ → List ℕ
-listingOf t = if (listingLimit <? length t) || not (whole t) then refusedLine 30 0 else listed t (firstBad t)
+unfoldable pub listingOf : (tape : List ℕ) → List ℕ
+listingOf tape = if (listingLimit <? length tape) || not (whole tape) then refusedLine 30 0 else listed tape (firstBad tape)

@@ -79,7 +79,7 @@ implies s t = not s || t
 
 -- "well formed when S10 to S15 are 0, BUSY implies WEL, and BUSY implies awake": the status ends where the chip's does,
 -- which also keeps out one of more than 16 bits; an awake over 1 is no register either
-unfoldable pub wellFormed : ℕ → Kept → Bool
+unfoldable pub wellFormed : (statusEnd : ℕ) → Kept → Bool
 wellFormed statusEnd k =
     (k .status <? statusEnd)
     && (k .awake ≤? 1)
