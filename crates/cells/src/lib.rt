@@ -9,46 +9,47 @@ ghost use Rattle.rules.specs.Units.{page, pageStart};
 ghost use Rattle.rules.specs.Cells.{ff, programmed};
 ghost use Rattle.cells.specs.InTurn.{inTurn};
 ghost use Rattle.cells.specs.Page.{lastSent, programmedAt};
+ghost use Rattle.lists.specs.Width.{numberEnd};
 
 // ---- one value, or two in turn, at every place
 
 // Each byte becomes v.
-pub fn fill(s: &mut [u8], v: u8)
-    ensures { λ _. ⌜ now (s .exit) ≡ tabulate (length (now (s .entry))) (λ j. v) ⌝ }
+pub fn fill(bytes: &mut [u8], value: u8)
+    ensures { λ _. ⌜ now (bytes .exit) ≡ tabulate (length (now (bytes .entry))) (λ j. value) ⌝ }
 {
     let mut i = 0;
-    while i < s.len() {
-        s[i] = v;
+    while i < bytes.len() {
+        bytes[i] = value;
         i += 1;
     }
 }
 
 // The bytes at even places become first, the others second.
-pub fn in_turn(s: &mut [u8], first: u8, second: u8)
-    ensures { λ _. ⌜ now (s .exit) ≡ tabulate (length (now (s .entry))) (inTurn first second) ⌝ }
+pub fn in_turn(bytes: &mut [u8], first: u8, second: u8)
+    ensures { λ _. ⌜ now (bytes .exit) ≡ tabulate (length (now (bytes .entry))) (inTurn first second) ⌝ }
 {
     let mut i = 0;
-    while i < s.len() {
+    while i < bytes.len() {
         let v = if i % 2 == 0 { first } else { second };
-        s[i] = v;
+        bytes[i] = v;
         i += 1;
     }
 }
 
 // The n bytes from a on become FF.
-pub fn erase(array: &mut [u8], a: usize, n: usize)
-    requires { ⌜ a + n ≤ length (now array) ⌝ }
-    ensures { λ _. ⌜ now (array .exit) ≡ patched (now (array .entry)) a n ff ⌝ }
+pub fn erase(array: &mut [u8], start: usize, count: usize)
+    requires { ⌜ start + count ≤ length (now array) ⌝ }
+    ensures { λ _. ⌜ now (array .exit) ≡ patched (now (array .entry)) start count ff ⌝ }
 {
-    let e = a + n;
-    fill(&mut array[a..e], 255);
+    let e = start + count;
+    fill(&mut array[start..e], 255);
 }
 
 // ---- programs
 
 // The last byte sent to each place of the page, FF where none is: FF leaves what it is ANDed into.
 fn latch(off: usize, bytes: &[u8]) -> [u8; 256]
-    requires { ⌜ (off < page) × (length (now bytes) < 4294967296) ⌝ }
+    requires { ⌜ (off < page) × (length (now bytes) < numberEnd) ⌝ }
     ensures { λ r. ⌜ r ≡ tabulate page (λ j. lastSent off (now (bytes .entry)) j 255) ⌝ }
 {
     let mut buf = [255u8; 256];
@@ -75,7 +76,7 @@ fn and_in(s: &mut [u8], bytes: &[u8])
 
 // The bytes go to the page s from the offset on, and wrap inside it.
 fn program(s: &mut [u8], off: usize, bytes: &[u8])
-    requires { ⌜ (length (now s) ≡ page) × (off < page) × (length (now bytes) < 4294967296) ⌝ }
+    requires { ⌜ (length (now s) ≡ page) × (off < page) × (length (now bytes) < numberEnd) ⌝ }
     ensures { λ _. ⌜ now (s .exit) ≡ tabulate page (programmedAt (now (s .entry)) off (now (bytes .entry))) ⌝ }
 {
     let end = off + bytes.len();
@@ -89,13 +90,13 @@ fn program(s: &mut [u8], off: usize, bytes: &[u8])
 }
 
 // The bytes go to the page of address a, from its offset on.
-pub fn program_at(array: &mut [u8], a: usize, bytes: &[u8])
-    requires { ⌜ (pageStart a + page ≤ length (now array)) × (length (now bytes) < 4294967296) ⌝ }
-    ensures { λ _. ⌜ now (array .exit) ≡ programmed (now (array .entry)) a (now (bytes .entry)) ⌝ }
+pub fn program_at(array: &mut [u8], address: usize, bytes: &[u8])
+    requires { ⌜ (pageStart address + page ≤ length (now array)) × (length (now bytes) < numberEnd) ⌝ }
+    ensures { λ _. ⌜ now (array .exit) ≡ programmed (now (array .entry)) address (now (bytes .entry)) ⌝ }
 {
-    let base = a / PAGE * PAGE;
+    let base = address / PAGE * PAGE;
     let end = base + PAGE;
-    program(&mut array[base..end], a % PAGE, bytes);
+    program(&mut array[base..end], address % PAGE, bytes);
 }
 
 // ---- copies
@@ -113,18 +114,18 @@ pub fn copy(out: &mut [u8], from: &[u8])
 }
 
 // out becomes the array's bytes from a on; after the array's last comes its first.
-pub fn copy_wrapped(out: &mut [u8], array: &[u8], a: usize)
-    requires { ⌜ (a < length (now array)) × (length (now out) ≤ length (now array)) ⌝ }
-    ensures { λ _. ⌜ now (out .exit) ≡ tabulate (length (now (out .entry))) (λ j. getD (now (array .entry)) ((a + j) % length (now (array .entry))) 0) ⌝ }
+pub fn copy_wrapped(out: &mut [u8], array: &[u8], address: usize)
+    requires { ⌜ (address < length (now array)) × (length (now out) ≤ length (now array)) ⌝ }
+    ensures { λ _. ⌜ now (out .exit) ≡ tabulate (length (now (out .entry))) (λ j. getD (now (array .entry)) ((address + j) % length (now (array .entry))) 0) ⌝ }
 {
     let n = out.len();
-    let room = array.len() - a;
+    let room = array.len() - address;
     if n <= room {
-        let end = a + n;
-        copy(out, &array[a..end]);
+        let end = address + n;
+        copy(out, &array[address..end]);
         return;
     }
     let rest = n - room;
-    copy(&mut out[0..room], &array[a..]);
+    copy(&mut out[0..room], &array[address..]);
     copy(&mut out[room..], &array[0..rest]);
 }

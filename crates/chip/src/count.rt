@@ -50,23 +50,23 @@ fn answered(part: u32, m: Meter, number: u32, op: u32) -> Meter
 }
 
 // By value, so that the proof by hand of the entry that is lent the meter meets no branch.
-pub fn count(part: u32, m: Meter, number: u32, op: u32) -> Metered
-    ensures { λ t. ⌜ t ≡ countOf part m number op ⌝ }
+pub fn count(part: u32, meter: Meter, number: u32, op: u32) -> Metered
+    ensures { λ t. ⌜ t ≡ countOf part meter number op ⌝ }
 {
     if !parts::is_part(part) {
         return Metered {
             number: 1,
-            meter: m,
+            meter: meter,
         };
     }
-    if !meter::has_room(m, 1) {
+    if !meter::has_room(meter, 1) {
         return Metered {
             number: 7,
-            meter: m,
+            meter: meter,
         };
     }
     Metered {
         number: 0,
-        meter: answered(part, m, number, op),
+        meter: answered(part, meter, number, op),
     }
 }

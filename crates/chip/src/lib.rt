@@ -24,6 +24,7 @@ ghost use Rattle.rules.specs.Counts.{meterAfter};
 ghost use Rattle.rules.specs.Transact.{transactTold, transactSeen, transactOf};
 ghost use Rattle.rules.specs.EventEntries.{eventTold, finishOf, powerCycleOf};
 ghost use Rattle.laws.specs.Room.{Room};
+ghost use Rattle.lists.specs.Width.{numberEnd};
 
 // ---- what a write does
 
@@ -40,7 +41,7 @@ fn data_of(b: &[u8]) -> &[u8]
 
 // The array after a write.
 fn write(part: u32, array: &mut [u8], b: &[u8], w: Write)
-    requires { ⌜ (length (now array) ≡ partOf part .size) × (length (now b) < 4294967296) ⌝ }
+    requires { ⌜ (length (now array) ≡ partOf part .size) × (length (now b) < numberEnd) ⌝ }
     ensures { λ _. ⌜ now (array .exit) ≡ arrayWritten (partOf part) (now (array .entry)) (now (b .entry)) (addressOf (partOf part) (now (b .entry))) w ⌝ }
 {
     let a = judge::address_of(part, b);
@@ -91,7 +92,7 @@ fn regs_done(part: u32, r: Regs, b: &[u8], k: Kind) -> Regs
 
 // The array after a command.
 fn array_done(part: u32, array: &mut [u8], b: &[u8], k: Kind)
-    requires { ⌜ (length (now array) ≡ partOf part .size) × (length (now b) < 4294967296) ⌝ }
+    requires { ⌜ (length (now array) ≡ partOf part .size) × (length (now b) < numberEnd) ⌝ }
     ensures { λ _. ⌜ now (array .exit) ≡ ofWrite k (now (array .entry)) (arrayWritten (partOf part) (now (array .entry)) (now (b .entry)) (addressOf (partOf part) (now (b .entry)))) ⌝ }
 {
     let Kind::Writes(w) = k else {
@@ -107,21 +108,29 @@ pub struct Turned {
 }
 
 // One transaction without its output: the verdict, then the kind that was carried out, or the number of what was not.
-pub fn turn(part: u32, r: Regs, m: Meter, array: &mut [u8], b: &[u8], x: u32, high: bool) -> Turned
-    requires { ⌜ (length (now array) ≡ partOf part .size) × (length (now b) < 4294967296) × Room m 1 ⌝ }
-    ensures { λ t. ⌜ (t .verdict ≡ verdictOf (partOf part) r (now (b .entry)) x high) × (t .regs ≡ regsAfter (partOf part) r (now (b .entry)) (t .verdict)) × (t .meter ≡ meterAfter m (t .verdict)) × (now (array .exit) ≡ arrayAfter (partOf part) (now (array .entry)) (now (b .entry)) (t .verdict)) ⌝ }
+pub fn turn(
+    part: u32,
+    regs: Regs,
+    meter: Meter,
+    array: &mut [u8],
+    bytes: &[u8],
+    leftover: u32,
+    high: bool,
+) -> Turned
+    requires { ⌜ (length (now array) ≡ partOf part .size) × (length (now bytes) < numberEnd) × Room meter 1 ⌝ }
+    ensures { λ t. ⌜ (t .verdict ≡ verdictOf (partOf part) regs (now (bytes .entry)) leftover high) × (t .regs ≡ regsAfter (partOf part) regs (now (bytes .entry)) (t .verdict)) × (t .meter ≡ meterAfter meter (t .verdict)) × (now (array .exit) ≡ arrayAfter (partOf part) (now (array .entry)) (now (bytes .entry)) (t .verdict)) ⌝ }
 {
-    let v = judge::verdict(part, r, b, x, high);
+    let v = judge::verdict(part, regs, bytes, leftover, high);
     let Verdict::CarriedOut(kind) = v else {
         return Turned {
             verdict: v,
-            regs: r,
-            meter: meter::one_ignored(m),
+            regs: regs,
+            meter: meter::one_ignored(meter),
         };
     };
-    let next = regs_done(part, r, b, kind);
-    let counted = meter::meter_step(m, kind);
-    array_done(part, array, b, kind);
+    let next = regs_done(part, regs, bytes, kind);
+    let counted = meter::meter_step(meter, kind);
+    array_done(part, array, bytes, kind);
     Turned {
         verdict: v,
         regs: next,
@@ -135,27 +144,35 @@ pub fn turn(part: u32, r: Regs, m: Meter, array: &mut [u8], b: &[u8], x: u32, hi
 pub fn transact(
     part: u32,
     kept: Kept,
-    m: Meter,
-    x: u32,
+    meter: Meter,
+    leftover: u32,
     wp: u32,
     array: &mut [u8],
     out: &mut [u8],
-    b: &[u8],
+    bytes: &[u8],
 ) -> Transacted
-    ensures { λ t. ⌜ transactSeen (transactTold kept m t) (now (array .exit)) (now (out .exit)) ≡ transactOf part kept m (now (array .entry)) (now (out .entry)) (now (b .entry)) x wp ⌝ }
+    ensures { λ t. ⌜ transactSeen (transactTold kept meter t) (now (array .exit)) (now (out .exit)) ≡ transactOf part kept meter (now (array .entry)) (now (out .entry)) (now (bytes .entry)) leftover wp ⌝ }
 {
-    let z = refuse::transaction(part, array.len(), kept, b.len(), x, out.len(), m);
+    let z = refuse::transaction(
+        part,
+        array.len(),
+        kept,
+        bytes.len(),
+        leftover,
+        out.len(),
+        meter,
+    );
     let number = z.number;
     if number != 0 {
         return Transacted::Refused(z);
     }
     let r = regs::regs_of(kept);
-    let t = turn(part, r, m, array, b, x, wp != 0);
+    let t = turn(part, r, meter, array, bytes, leftover, wp != 0);
     let verdict = t.verdict;
     let next = t.regs;
     let meter = t.meter;
-    let n = b.len();
-    output::show(&mut out[0..n], part, r, array, b, verdict);
+    let n = bytes.len();
+    output::show(&mut out[0..n], part, r, array, bytes, verdict);
     Transacted::Stepped(Served {
         verdict: verdict,
         regs: regs::kept_of(next),

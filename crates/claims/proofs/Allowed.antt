@@ -1,14 +1,16 @@
 -- Demand 2: a command that document 01 allows is carried out, with its effect; and none other is.
-use mathlib.Core.Path.{_≡_, refl, ap}
+use mathlib.Core.Path.{_≡_, refl, sym, ap, subst}
 use mathlib.Core.Bool.{Bool, true, false, not, _&&_}
-use mathlib.Core.List.{List}
+use mathlib.Core.List.{List, _++_}
 use mathlib.Core.Logic.{_⊎_, inl, inr, ⊎-elim, ⊎-map, _↔_}
 use Prim.Native.Nat.{ℕ, _<_}
 use native.Mathlib.Omega.{arith}
-use lib.ListN.{length, getD}
+use lib.ListN.{length, getD, drop}
 use borrow.Author.Tests.{not-false}
 use Rattle.lists.specs.Places.{tabulate}
 use Rattle.lists.proofs.Choice.{either-false}
+use Rattle.rules.specs.declared.Kept.{Kept}
+use Rattle.rules.specs.declared.Meter.{Meter}
 use Rattle.rules.specs.declared.Regs.{Regs}
 use Rattle.rules.specs.declared.Write.{Write}
 use Rattle.rules.specs.declared.Write.the-variants.{Program, Erase, WriteStatus}
@@ -16,16 +18,23 @@ use Rattle.rules.specs.declared.Kind.{Kind}
 use Rattle.rules.specs.declared.Kind.the-variants.{Writes}
 use Rattle.rules.specs.declared.Command.the-variants.{Known}
 use Rattle.rules.specs.declared.Verdict.the-variants.{CarriedOut}
-use Rattle.rules.specs.Kinds.{ofWrite}
+use Rattle.rules.specs.Kinds.{codeOf, ofWrite}
 use Rattle.rules.specs.Part.{Part, commandOf, shaped}
+use Rattle.rules.specs.Parts.{partOf}
+use Rattle.rules.specs.Status.{regsOf, keptOf}
 use Rattle.rules.specs.Protection.{isProtected}
 use Rattle.rules.specs.Writes.{reachStart, reachLength, locked, lockedOut, arrayWritten}
 use Rattle.rules.specs.Verdict.{addressOf, unheardAsleep, unheardBusy, verdictOf}
 use Rattle.rules.specs.Transaction.{Turn, drivenAt, regsDone, turnOf}
+use Rattle.rules.specs.Counts.{counted}
+use Rattle.rules.specs.Transact.{TransactSeen, isHigh, transactOf}
+use Rattle.laws.proofs.Accepted.{Taken}
+use Rattle.laws.proofs.Answered.{transact-served}
 use Rattle.laws.proofs.Protection.{none-protected, bare-none}
 use Rattle.laws.proofs.CarriedOut.{Passed, carried-passed, passed-carried, turn-is}
 use Rattle.claims.proofs.Choices.{both-false}
 use Rattle.claims.proofs.Reach.{In}
+use Rattle.claims.proofs.Entry.{not-refused, answered-0}
 
 -- ---- what document 01 allows
 
@@ -138,3 +147,37 @@ module _ (p : Part) (r : Regs) (b : List ℕ) (x : ℕ) (high : Bool) (k : Kind)
   allowed-is-carried-out l h =
       rw (turn-is p r l b x high (CarriedOut k) (passed-carried p r b x high k (passes h)))
       (record { verdict = refl; regs = refl; array = refl; out = refl })
+
+-- ---- and so for a caller of the entry
+
+-- what a caller is left with after a command of kind k: the answer is 0 and the kind's code, "success writes only the first n
+-- output bytes", and the meter is brought up to date
+pub record EffectLent (part : ℕ) (kept : Kept) (m : Meter) (l o b : List ℕ) (k : Kind) (s : TransactSeen) : Type 0 where
+  pub served : s .answer .served ≡ true
+  pub number : s .answer .number ≡ 0
+  pub code : s .answer .code ≡ codeOf k
+  pub index : s .answer .index ≡ 0
+  pub regs : s .answer .regs ≡ keptOf (regsDone (partOf part) (regsOf kept) b k)
+  pub meter : s .answer .meter ≡ ofWrite k m (counted m)
+  pub array : s .array ≡ ofWrite k l (arrayWritten (partOf part) l b (addressOf (partOf part) b))
+  pub out : s .out ≡ tabulate (length b) (drivenAt (partOf part) (regsOf kept) l b k) ++ drop (length b) o
+
+module _ (part : ℕ) (kept : Kept) (m : Meter) (l o b : List ℕ) (x wp : ℕ) where
+  abbrev r : Regs
+  r = regsOf kept
+
+  -- a transaction that none of 1 to 7 refuses, of a command that document 01 allows
+  pub allowed-is-carried-out-lent : (k : Kind) → Taken part (length l) kept (length b) x (length o) m → Allowed (partOf part) r b x (isHigh wp) k
+      → EffectLent part kept m l o b k (transactOf part kept m l o b x wp)
+  allowed-is-carried-out-lent k c h =
+      let e = passed-carried (partOf part) r b x (isHigh wp) k (passes (partOf part) r b x (isHigh wp) k h) in
+      subst (EffectLent part kept m l o b k)
+      (transact-served part kept m l o b x wp (CarriedOut k) (not-refused part (length l) kept (length b) x (length o) m c) (sym e))
+      (record { served = refl; number = refl; code = refl; index = refl; regs = refl; meter = refl; array = refl; out = refl })
+
+  -- .. and none other answers 0
+  pub carried-out-is-allowed-lent : transactOf part kept m l o b x wp .answer .number ≡ 0
+      → Taken part (length l) kept (length b) x (length o) m × ((k : Kind) × Allowed (partOf part) r b x (isHigh wp) k)
+  carried-out-is-allowed-lent n =
+      let h = answered-0 part kept m l o b x wp n in
+      (h .1 .unrefused, (h .0, carried-out-is-allowed (partOf part) r b x (isHigh wp) (h .0) (h .1 .carried)))

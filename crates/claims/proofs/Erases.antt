@@ -8,17 +8,23 @@ use lib.ListN.{length, getD}
 use Rattle.lists.proofs.Patched.{patched-inside}
 use Rattle.rules.specs.declared.EraseUnit.{EraseUnit}
 use Rattle.rules.specs.declared.EraseUnit.the-variants.{Sector, Block32, Block64, Chip}
+use Rattle.rules.specs.declared.Kept.{Kept}
+use Rattle.rules.specs.declared.Meter.{Meter}
 use Rattle.rules.specs.declared.Regs.{Regs}
 use Rattle.rules.specs.declared.Write.the-variants.{Erase}
 use Rattle.rules.specs.declared.Kind.the-variants.{Writes}
 use Rattle.rules.specs.declared.Verdict.the-variants.{CarriedOut}
 use Rattle.rules.specs.Units.{unitStart, unitLength}
 use Rattle.rules.specs.Part.{Part}
+use Rattle.rules.specs.Parts.{partOf}
+use Rattle.rules.specs.Status.{regsOf}
 use Rattle.rules.specs.Cells.{erased}
 use Rattle.rules.specs.Verdict.{addressOf, verdictOf}
 use Rattle.rules.specs.Transaction.{turnOf}
-use Rattle.laws.proofs.Sound.{Sound, unit-end}
+use Rattle.rules.specs.Transact.{isHigh, transactOf}
+use Rattle.laws.proofs.Sound.{Sound, unit-end, part-sound}
 use Rattle.claims.proofs.Reach.{In, written, address-inside, outside-reach, written-length}
+use Rattle.claims.proofs.Entry.{FirstSays, answered-0, carried-as}
 
 -- y is a byte of the unit u that holds address a
 abbrev pub InUnit : Part → EraseUnit → ℕ → ℕ → Type 0
@@ -50,3 +56,13 @@ erase-is-its-unit p sound r l b x high u long e =
       outside = outside-reach p sound l b a long here (Erase u);
       long = written-length p sound l b a long here (Erase u);
     })
+
+-- .. and so in what a caller of the entry is left with: a transaction whose first byte says an erase, and which answers 0
+pub erase-is-its-unit-lent : (part : ℕ) (kept : Kept) (m : Meter) (l o b : List ℕ) (x wp : ℕ) (u : EraseUnit)
+    → FirstSays part b (Writes (Erase u)) → transactOf part kept m l o b x wp .answer .number ≡ 0
+    → UnitErased (partOf part) u (addressOf (partOf part) b) l (transactOf part kept m l o b x wp .array)
+erase-is-its-unit-lent part kept m l o b x wp u says n =
+    let h = answered-0 part kept m l o b x wp n in
+    let e = carried-as part kept m l o b x wp (Writes (Erase u)) (h .0) says (h .1 .carried) in
+    rw (h .1 .array-is)
+    (erase-is-its-unit (partOf part) (part-sound part) (regsOf kept) l b x (isHigh wp) u (h .1 .unrefused .begun .long) e)

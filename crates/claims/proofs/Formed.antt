@@ -28,13 +28,14 @@ use Rattle.rules.specs.Parts.{partOf}
 use Rattle.rules.specs.Verdict.{verdictOf}
 use Rattle.rules.specs.Transaction.{regsDone, regsAfter, turnOf}
 use Rattle.rules.specs.Events.{finished, unlatched, powerCycled}
-use Rattle.rules.specs.Transact.{TransactSeen, isHigh, transactServed, transactRefused, transactBy, transactOf}
-use Rattle.rules.specs.EventEntries.{EventTold, eventBy, finishOf, powerCycleOf}
+use Rattle.rules.specs.Transact.{isHigh, transactOf}
+use Rattle.rules.specs.EventEntries.{EventTold, eventOf, finishOf, powerCycleOf}
 use Rattle.rules.specs.Tape.{Rec, transaction, finish, powerCycle, records, recsOf}
 use Rattle.rules.specs.Play.{State, state, playRec, play}
-use Rattle.rules.specs.Replay.{ReplaySeen, replayServed, replayRefused, replayBy, replayFirstOf, replayOf}
+use Rattle.rules.specs.Replay.{ReplaySeen, replayServed, replayRefused, replayFirstOf, replayOf}
 use Rattle.rules.proofs.Apart.{code-back}
 use Rattle.claims.proofs.Table.{heard-asleep, heard-busy}
+use Rattle.claims.proofs.Entry.{by-answer}
 use Rattle.claims.proofs.Allowed.{Allowed, carried-out-is-allowed}
 use Rattle.claims.proofs.RoundTrip.{formed-word, flag-small, regs-back}
 
@@ -224,20 +225,20 @@ module _ (part : ℕ) (kept : Kept) (formed : Fit part kept) where
 
   -- .. and so what each entry hands back, whether it serves or refuses
   pub transact-formed : (m : Meter) (l o b : List ℕ) (x wp : ℕ) → Fit part (transactOf part kept m l o b x wp .answer .regs)
-  unfolding transactOf transactBy transactServed transactRefused turnOf
   transact-formed m l o b x wp =
-      by-choice (λ (s : TransactSeen). Fit part (s .answer .regs)) _ _ _ (formed-after b x (isHigh wp)) formed
+      let h = formed-after b x (isHigh wp) in
+      by-answer part kept m l o b x wp (λ s. Fit part (s .answer .regs)) (λ c k e. rw e at h) (λ c w e. rw e at h) (λ i j. formed)
 
   pub finish-formed : Fit part (finishOf part kept .regs)
-  unfolding finishOf eventBy
+  unfolding finishOf eventOf
   finish-formed = by-choice (λ (s : EventTold). Fit part (s .regs)) _ _ _ formed-after-finish formed
 
   pub power-cycle-formed : Fit part (powerCycleOf part kept .regs)
-  unfolding powerCycleOf eventBy
+  unfolding powerCycleOf eventOf
   power-cycle-formed = by-choice (λ (s : EventTold). Fit part (s .regs)) _ _ _ formed-after-power-cycle formed
 
   pub replay-first-formed : (m : Meter) (l t : List ℕ) (k : ℕ) → Fit part (replayFirstOf part kept m l t k .answer .regs)
-  unfolding replayFirstOf replayBy replayServed replayRefused
+  unfolding replayFirstOf replayServed replayRefused
   replay-first-formed m l t k =
       by-choice (λ (s : ReplaySeen). Fit part (s .answer .regs)) _ _ _
       (formed-word-after part kept (λ r. play (partOf part) (take k (recsOf t)) (state r l m) .regs)

@@ -1,5 +1,5 @@
 -- Document 01: "An ignored command drives only FF and leaves WEL"; "Verdicts 10 to 16 add one to ignored. Nothing else counts."
-use mathlib.Core.Path.{_≡_, refl, subst}
+use mathlib.Core.Path.{_≡_, refl, sym, _∙_, subst}
 use mathlib.Core.Bool.{Bool, not}
 use mathlib.Core.List.{List}
 use Prim.Native.Nat.{ℕ, _+_, _≤_}
@@ -25,9 +25,11 @@ use Rattle.rules.specs.Part.{Part, commandOf, shaped}
 use Rattle.rules.specs.Protection.{firstProtected}
 use Rattle.rules.specs.Cells.{ff}
 use Rattle.rules.specs.Writes.{reachStart, reachLength, lockedOut}
-use Rattle.rules.specs.Verdict.{ignored, addressOf, unheardAsleep, unheardBusy, protectionVerdict, writeVerdict, kindVerdict, judgeOf, verdictOf}
+use Rattle.rules.specs.Verdict.{ignored, addressOf, unheardAsleep, unheardBusy, verdictOf}
+use Rattle.laws.specs.Judged.{protectionVerdict, writeVerdict, kindVerdict, judgeOf}
 use Rattle.rules.specs.Transaction.{Turn, turnOf}
 use Rattle.rules.specs.Counts.{meterAfter}
+use Rattle.laws.proofs.Judged.{verdict-judged}
 use Rattle.laws.proofs.CarriedOut.{by-write, turn-is}
 
 -- ---- the numbers of ignored verdicts are 10 to 16
@@ -62,14 +64,14 @@ command-numbered p r n x high op a (Known k) =
 
 pub ignored-number : (p : Part) (r : Regs) (b : List ℕ) (x : ℕ) (high : Bool) (w : Reason) → verdictOf p r b x high ≡ Ignored w
     → (10 ≤ w .number) × (w .number ≤ 16)
-unfolding verdictOf judgeOf
+unfolding judgeOf
 ignored-number p r b x high w e =
     let op = getD b 0 0 in
-    let numbered : Numbered (verdictOf p r b x high) =
+    let numbered : Numbered (judgeOf p r (length b) x high op (addressOf p b) (commandOf p op)) =
     next (length b =? 0) 12 _ (lit≤ tt) (lit≤ tt)
     (next (unheardAsleep p r op) 11 _ (lit≤ tt) (lit≤ tt)
     (next (unheardBusy p r op) 10 _ (lit≤ tt) (lit≤ tt) (command-numbered p r (length b) x high op (addressOf p b) (commandOf p op)))) in
-    subst Numbered e numbered
+    subst Numbered (sym (verdict-judged p r b x high) ∙ e) numbered
 
 -- ---- what an ignored transaction changes
 

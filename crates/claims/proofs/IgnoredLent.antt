@@ -1,30 +1,22 @@
 -- What a caller of `transact` is left with after an ignored command: FF on the first n output bytes, the registers and the
 -- array that were handed in, and one more ignored on the meter.
-use mathlib.Core.Path.{_≡_, refl}
-use mathlib.Core.Bool.{Bool, true, false}
+use mathlib.Core.Path.{_≡_, refl, sym}
+use mathlib.Core.Bool.{true}
 use mathlib.Core.List.{List, _++_}
 use Prim.Native.Nat.{ℕ, _≤_}
 use native.Mathlib.Omega.{arith}
 use lib.ListN.{length, drop}
-use borrow.Author.Tests.{eqb-true}
-use Rattle.lists.specs.Choice.{if_then_else_}
 use Rattle.lists.specs.Places.{tabulate}
 use Rattle.rules.specs.declared.Kept.{Kept}
 use Rattle.rules.specs.declared.Meter.{Meter}
-use Rattle.rules.specs.declared.Refusal.{Refusal}
-use Rattle.rules.specs.declared.Verdict.{Verdict}
-use Rattle.rules.specs.declared.Verdict.the-variants.{CarriedOut, Ignored}
 use Rattle.rules.specs.Cells.{ff}
 use Rattle.rules.specs.Fm25q16.{fm25q16}
 use Rattle.rules.specs.Parts.{partOf}
-use Rattle.rules.specs.Status.{regsOf}
-use Rattle.rules.specs.Verdict.{verdictOf}
 use Rattle.rules.specs.Counts.{ignoredCounted}
-use Rattle.rules.specs.Transaction.{turnBy, turnOf}
-use Rattle.rules.specs.Refusals.{accepted, transactRefusal}
-use Rattle.rules.specs.Transact.{TransactSeen, isHigh, transactServed, transactRefused, transactBy, transactOf}
-use Rattle.laws.proofs.Accepted.{taken}
+use Rattle.rules.specs.Transact.{TransactSeen, transactOf}
+use Rattle.claims.proofs.Choices.{never}
 use Rattle.claims.proofs.RoundTrip.{kept-back}
+use Rattle.claims.proofs.Entry.{by-answer}
 
 -- what is seen of a transaction that changed one count
 pub record OneCountLent (kept : Kept) (m : Meter) (l o b : List ℕ) (s : TransactSeen) : Type 0 where
@@ -37,17 +29,9 @@ pub record OneCountLent (kept : Kept) (m : Meter) (l o b : List ℕ) (s : Transa
 pub ignored-lent : (part : ℕ) (kept : Kept) (m : Meter) (l o b : List ℕ) (x wp : ℕ)
     → transactOf part kept m l o b x wp .answer .served ≡ true → 1 ≤ transactOf part kept m l o b x wp .answer .number
     → OneCountLent kept m l o b (transactOf part kept m l o b x wp)
-unfolding transactOf transactBy transactServed transactRefused turnOf if_then_else_ partOf fm25q16
-ignored-lent part kept m l o b x wp = go (accepted z) (verdictOf (partOf part) (regsOf kept) b x (isHigh wp)) refl
-  where
-    z : Refusal
-    z = transactRefusal part (length l) kept (length b) x (length o) m
-
-    seen : Bool → Verdict → TransactSeen
-    seen t v = if t then transactServed kept m o b (turnBy (partOf part) (regsOf kept) l b v) else transactRefused kept m l o z
-
-    go : (t : Bool) (v : Verdict) → accepted z ≡ t → seen t v .answer .served ≡ true → 1 ≤ seen t v .answer .number → OneCountLent kept m l o b (seen t v)
-    go true (CarriedOut k) e s n = absurd (omega arith)
-    go true (Ignored w) e s n =
-        record { out = refl; array = refl; regs = kept-back kept (taken part (length l) kept (length b) x (length o) m (eqb-true _ _ e) .begun .formed); meter = refl }
-    go false v e s n = let c : _≡_ {A = ℕ} 0 1 = cc in absurd (omega arith)
+unfolding partOf fm25q16
+ignored-lent part kept m l o b x wp =
+    by-answer part kept m l o b x wp (λ s. s .answer .served ≡ true → 1 ≤ s .answer .number → OneCountLent kept m l o b s)
+    (λ c k e s n. absurd (omega arith))
+    (λ c w e s n. record { out = refl; array = refl; regs = kept-back kept (c .begun .formed); meter = refl })
+    (λ h k s n. never (sym s))

@@ -1,33 +1,31 @@
 -- Demand 3: jobs mean what they say. It speaks of the very bytes that `translate` writes and `replay` reads.
-use mathlib.Core.Path.{_≡_, refl, sym, ap, _∙_, subst}
-use mathlib.Core.Bool.{Bool, true, false}
-use mathlib.Core.List.{List, _++_}
-use Prim.Native.Nat.{ℕ, _+_}
+use mathlib.Core.Path.{_≡_, sym, ap, _∙_, subst}
+use mathlib.Core.Bool.{true}
+use mathlib.Core.List.{List}
+use Prim.Native.Nat.{ℕ}
 use lib.ListN.{length, take, drop}
 use lib.Seq.{take-append-seam, take-length}
-use borrow.Author.Tests.{eqb-true, eq-eqb}
+use borrow.Author.Tests.{eq-eqb}
 use Rattle.lists.specs.Choice.{if_then_else_}
 use Rattle.rules.specs.declared.Kept.{Kept}
 use Rattle.rules.specs.declared.Meter.{Meter}
 use Rattle.rules.specs.declared.Bill.{Bill}
-use Rattle.rules.specs.declared.Refusal.{Refusal}
-use Rattle.rules.specs.declared.Translated.the-variants.{Written, Refused}
-use Rattle.rules.specs.declared.Quoted.the-variants.{Billed}
-use Rattle.rules.specs.declared.Quoted.the-variants as Q
 use Rattle.rules.specs.Parts.{isPart, partOf}
 use Rattle.rules.specs.Status.{regsOf, keptOf}
-use Rattle.rules.specs.Refusals.{accepted, _orElse_}
+use Rattle.rules.specs.Refusals.{_orElse_}
 use Rattle.rules.specs.Tape.{Rec, records, recsOf}
 use Rattle.rules.specs.Play.{State, state, play}
 use Rattle.rules.specs.Replay.{recordsRefusal, replayRefusal, replaySeen, replayOf}
 use Rattle.rules.specs.Job.{stepsOf, arrayMeant, allRegsMeant}
 use Rattle.rules.specs.JobRefusals.{jobRefusal}
-use Rattle.rules.specs.Records.{jobRecs, billOf}
-use Rattle.rules.specs.Translate.{tapeOf, translateRefusal, translateTold, translateSeen, translateBy, translateOf, quoteTold, quoteBy, quoteOf}
+use Rattle.rules.specs.Records.{jobRecs}
+use Rattle.rules.specs.Bill.{billOf}
+use Rattle.rules.specs.Translate.{tapeOf, translateOf, BillTold}
 use Rattle.rules.specs.Ready.{Ready, Roomy}
-use Rattle.laws.proofs.Accepted.{neither}
 use Rattle.laws.proofs.JobPassed.{job-passed}
 use Rattle.claims.specs.Means.{tapeWritten, figures, Means}
+use Rattle.claims.proofs.Choices.{never}
+use Rattle.claims.proofs.Translated.{by-translation, quote-billed}
 use Rattle.laws.proofs.RecordOk.{RecsOk}
 use Rattle.tape.proofs.Round.{encode-whole, encode-records, encode-recs, encode-unfaulted}
 use Rattle.demand.specs.Raised.{raised}
@@ -37,23 +35,6 @@ use Rattle.demand.proofs.JobPlayed.{job-recs-ok, job-played, job-none-ignored}
 use Rattle.replay.proofs.Checked.{replay-served}
 use Rattle.translate.proofs.Whole.{tape-long}
 
--- a tape that is served is the job's tape
-served-accepted : (z : Refusal) (w buffer : List ℕ) → translateBy z w buffer .answer .served ≡ true → accepted z ≡ true
-unfolding translateBy if_then_else_
-served-accepted z w buffer e = go (accepted z) e
-  where
-    go : (t : Bool) → (if t then translateSeen (translateTold (Written (length w))) (w ++ drop (length w) buffer) else translateSeen (translateTold (Refused z)) buffer) .answer .served ≡ true → t ≡ true
-    go true q = refl
-    go false q = q
-
-accepted-written : (z : Refusal) (w buffer : List ℕ) → accepted z ≡ true → take (translateBy z w buffer .answer .length) (translateBy z w buffer .tape) ≡ w
-unfolding translateBy if_then_else_
-accepted-written z w buffer e = rw e (take-append-seam w (drop (length w) buffer))
-
-quote-bill : (z : Refusal) (b : Bill) → z .number ≡ 0 → quoteBy z b .bill ≡ b
-unfolding quoteBy if_then_else_
-quote-bill z b e = ap (λ (t : Bool). (if t then quoteTold (Billed b) else quoteTold (Q.Refused z)) .bill) (eq-eqb (z .number) 0 e)
-
 module _ (part s : ℕ) (job payload buffer : List ℕ) (served : translateOf part s job payload buffer .answer .served ≡ true) where
   abbrev w : List ℕ
   w = tapeOf (partOf part) job payload
@@ -61,17 +42,22 @@ module _ (part s : ℕ) (job payload buffer : List ℕ) (served : translateOf pa
   abbrev rs : List Rec
   rs = jobRecs (partOf part) payload (stepsOf job)
 
-  taken : accepted (translateRefusal part s job payload (length buffer)) ≡ true
-  unfolding translateOf
-  taken = served-accepted _ w buffer served
+  -- a tape that is served is the job's tape
+  written : (jobRefusal part s job (length payload) .number ≡ 0)
+      × (take (translateOf part s job payload buffer .answer .length) (translateOf part s job payload buffer .tape) ≡ w)
+  written =
+      by-translation part s job payload buffer
+      (λ v. v .answer .served ≡ true → (jobRefusal part s job (length payload) .number ≡ 0) × (take (v .answer .length) (v .tape) ≡ w))
+      (λ e h q. (e, take-append-seam w (drop (length w) buffer)))
+      (λ e h q. never (sym q))
+      (λ e q. never (sym q))
+      served
 
-  tape-is : tapeWritten part s job payload buffer ≡ w
-  unfolding translateOf
-  tape-is = accepted-written (translateRefusal part s job payload (length buffer)) w buffer taken
+  pub tape-is : tapeWritten part s job payload buffer ≡ w
+  tape-is = written .1
 
   unrefused : jobRefusal part s job (length payload) .number ≡ 0
-  unfolding translateRefusal
-  unrefused = neither (jobRefusal part s job (length payload)) _ (eqb-true _ _ taken) .0
+  unrefused = written .0
 
   ok : RecsOk rs
   ok = job-recs-ok part s job payload unrefused
@@ -80,8 +66,7 @@ module _ (part s : ℕ) (job payload buffer : List ℕ) (served : translateOf pa
   known = job-passed part s job (length payload) unrefused .known
 
   bill-is : figures part s job payload ≡ billOf (stepsOf job)
-  unfolding quoteOf
-  bill-is = quote-bill (jobRefusal part s job (length payload)) (billOf (stepsOf job)) unrefused
+  bill-is = ap (λ (t : BillTold). t .bill) (quote-billed part s job (length payload) unrefused)
 
   module _ (kept : Kept) (m : Meter) (l : List ℕ) (long : length l ≡ partOf part .size) (ready : Ready (partOf part) s kept) (roomy : Roomy m (tapeWritten part s job payload buffer)) where
     room-is : Roomy m w

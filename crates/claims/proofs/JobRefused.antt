@@ -1,80 +1,37 @@
--- A job is refused only for document 01's reasons: of a job that passes 1, 20 and 21, "each step in order for 22 to 25", with
--- "the first bad record's index".
-use mathlib.Core.Path.{_≡_, refl, sym, ap, _∙_}
+-- A job is refused exactly for document 01's reasons: the refusal that `translate` and `quote` make of it is n at i where the
+-- table's line for n holds at i, and none where no line holds.
+use mathlib.Core.Path.{_≡_, refl, sym, ap, _∙_, subst}
 use mathlib.Core.Bool.{Bool, true, false, not}
 use mathlib.Core.List.{List}
 use mathlib.Core.Logic.{⊎-elim, _↔_}
-use Prim.Native.Nat.{ℕ, zero, suc, _+_, _≤_, _<_}
+use Prim.Native.Nat.{ℕ, zero, suc, _+_, _%_, _≤_, _<_}
 use native.Mathlib.Omega.{arith}
 use native.Mathlib.Nat.{eq-or-lt-of-le}
-use borrow.Author.Tests.{eqb-true, eqb-false, ne-eqb, le-ltb, ltb-true, ltb-false}
+use borrow.Author.Tests.{eqb-true, eqb-false, ne-eqb, le-ltb, lt-ltb, ltb-true, ltb-false}
 use lib.Dec.{eqb}
-use Rattle.lists.specs.Choice.{if_then_else_, _<?_}
-use Rattle.lists.specs.declared.Found.{Found}
-use Rattle.lists.specs.declared.Found.the-variants.{At, Nothing}
-use Rattle.lists.proofs.Search.{Lowest, first-at}
-use Rattle.rules.specs.declared.Step.{Step}
-use Rattle.rules.specs.declared.Decoded.{Decoded}
-use Rattle.rules.specs.declared.Decoded.the-variants.{Good, Bad}
+use lib.ListN.{length}
+use Rattle.lists.specs.Choice.{if_then_else_, _=?_, _<?_}
 use Rattle.rules.specs.declared.Refusal.{Refusal}
 use Rattle.rules.specs.Part.{Part}
 use Rattle.rules.specs.Parts.{isPart, partOf}
-use Rattle.rules.specs.Protection.{isProtected, firstProtected}
-use Rattle.rules.specs.Job.{settingLimit, stepAt, stepCount}
+use Rattle.rules.specs.Job.{stepLength, settingLimit, stepAt, stepCount}
 use Rattle.rules.specs.Refusals.{refusal, refusalAt, _orElse_}
-use Rattle.rules.specs.JobRefusals.{unfit, outside, beyond, stepStart, stepReach, wasFound, shielded, stepNumber, decodedNumber, stepsRefusal, jobRefusal}
+use Rattle.rules.specs.JobRefusals.{jobLimit, payloadLimit, unfit, decodedNumber, stepsRefusal, jobRefusal}
 use Rattle.job.specs.Carried.{settingAt}
-
--- ---- the statement
+use Rattle.claims.specs.TurnedAway.{Wrong, Right, Unfit, JobTurnedAway, for-1, for-20, for-21, for-step}
+use Rattle.claims.proofs.Choices.{=?-is, <?-is, not-is, fails-is, or-or-is}
+use Rattle.claims.proofs.StepWrong.{wrong-number, number-wrong}
 
 -- the number of step i, checked at the setting that the guards before it leave; 0 where it is not refused
-abbrev pub numberAt : Part → ℕ → ℕ → List ℕ → ℕ → ℕ
+abbrev numberAt : Part → ℕ → ℕ → List ℕ → ℕ → ℕ
 numberAt p s pl job i = decodedNumber p (settingAt job s i) pl (stepAt job i)
 
 -- of the places from a up to b, i is the first where f is not 0, and there it is n
-pub record First (f : ℕ → ℕ) (a b n i : ℕ) : Type 0 where
-  pub from : a ≤ i
-  pub there : i < b
-  pub before : (j : ℕ) → a ≤ j → j < i → f j ≡ 0
-  pub number : f i ≡ n
-
--- what a number says of the bytes of a step, at setting s and with pl bytes of payload
-pub record Because (p : Part) (s pl : ℕ) (d : Decoded) (n : ℕ) : Type 0 where
-  pub in-table : (22 ≤ n) × (n ≤ 25)
-  -- "unknown kind, or a byte outside the rules above"
-  pub for-22 : n ≡ 22 → d ≡ Bad
-  -- "address past the chip, whole-chip erase not at 0, length 0 or over 4,096, or end past the chip"
-  pub for-23 : n ≡ 23 → (w : Step) × (d ≡ Good w) × (outside p w ≡ true)
-  -- "payload span outside the payload"
-  pub for-24 : n ≡ 24 → (w : Step) × (d ≡ Good w) × (outside p w ≡ false) × (beyond pl w ≡ true)
-  -- "a byte of the unit or span protected at that step"
-  pub for-25 : n ≡ 25 → (w : Step) × (d ≡ Good w) × (outside p w ≡ false) × (beyond pl w ≡ false) × (shielded p s w ≡ true)
-
--- ---- one step
-
-number-means : (p : Part) (s pl : ℕ) (d : Decoded) (n : ℕ) → decodedNumber p s pl d ≡ n → (n ≡ 0 → ⊥) → Because p s pl d n
-unfolding stepNumber if_then_else_
-number-means p s pl Bad n e z =
-    record { in-table = omega arith; for-22 = λ q. refl; for-23 = λ q. absurd (omega arith); for-24 = λ q. absurd (omega arith); for-25 = λ q. absurd (omega arith) }
-number-means p s pl (Good w) n e z = go (outside p w) (beyond pl w) (shielded p s w) refl refl refl e
-  where
-    go : (o y h : Bool) → outside p w ≡ o → beyond pl w ≡ y → shielded p s w ≡ h → (if o then 23 else if y then 24 else if h then 25 else 0) ≡ n → Because p s pl (Good w) n
-    go true y h a b c q =
-        record { in-table = omega arith; for-22 = λ k. absurd (omega arith); for-23 = λ k. (w, refl, a); for-24 = λ k. absurd (omega arith); for-25 = λ k. absurd (omega arith) }
-    go false true h a b c q =
-        record { in-table = omega arith; for-22 = λ k. absurd (omega arith); for-23 = λ k. absurd (omega arith); for-24 = λ k. (w, refl, a, b); for-25 = λ k. absurd (omega arith) }
-    go false false true a b c q =
-        record { in-table = omega arith; for-22 = λ k. absurd (omega arith); for-23 = λ k. absurd (omega arith); for-24 = λ k. absurd (omega arith); for-25 = λ k. (w, refl, a, b, c) }
-    go false false false a b c q = absurd (z (sym q))
-
--- 25 is given for a byte of the unit or span: the lowest that is protected at setting s
-pub shielded-byte : (p : Part) (s : ℕ) (w : Step) → shielded p s w ≡ true → (y : ℕ) × Lowest (isProtected p s) (stepStart w) (stepReach p w) y
-unfolding shielded firstProtected
-shielded-byte p s w e = go (firstProtected p s (stepStart w) (stepReach p w)) refl e
-  where
-    go : (f : Found) → firstProtected p s (stepStart w) (stepReach p w) ≡ f → wasFound f ≡ true → (y : ℕ) × Lowest (isProtected p s) (stepStart w) (stepReach p w) y
-    go (At y) q h = (y, first-at (isProtected p s) (stepStart w) (stepReach p w) y q)
-    go Nothing q h = let z : _≡_ {A = ℕ} 0 1 = cc in absurd (omega arith)
+record First (f : ℕ → ℕ) (a b n i : ℕ) : Type 0 where
+  from : a ≤ i
+  there : i < b
+  before : (j : ℕ) → a ≤ j → j < i → f j ≡ 0
+  number : f i ≡ n
 
 -- ---- the first of n steps
 
@@ -130,48 +87,84 @@ module _ (p : Part) (s pl : ℕ) (job : List ℕ) where
       (record { from = l; there = h .there; before = λ j c d. h .before j (omega arith) d; number = h .number }))
       (eq-or-lt-of-le (h .from))
 
+  -- ---- a step that earns no number
+
+  right-zero : (i : ℕ) → Right p (settingAt job s i) pl job i → f i ≡ 0
+  right-zero i h = go (eqb (f i) 0) refl
+    where
+      go : (t : Bool) → eqb (f i) 0 ≡ t → f i ≡ 0
+      go true e = eqb-true (f i) 0 e
+      go false e = absurd (h (f i) (number-wrong p (settingAt job s i) pl job i (eqb-false (f i) 0 e)))
+
+  zero-right : (i : ℕ) → f i ≡ 0 → Right p (settingAt job s i) pl job i
+  zero-right i e n w = let h = wrong-number p (settingAt job s i) pl job i n w in h .1 (sym (h .0) ∙ e)
+
 -- ---- the job
 
-module _ (part s : ℕ) (job : List ℕ) (pl : ℕ) (known : isPart part ≡ true) (fits : unfit job pl ≡ false) (small : s ≤ settingLimit) where
-  the-steps : jobRefusal part s job pl ≡ stepsRefusal (partOf part) (settingAt job s 0) pl job 0 (stepCount job)
-  unfolding jobRefusal settingAt if_then_else_
-  the-steps = rw (known, fits, le-ltb settingLimit s small)
+unfit-is : (job : List ℕ) (pl : ℕ) → unfit job pl ≡ true ↔ Unfit job pl
+unfolding unfit
+unfit-is job pl =
+    or-or-is (not (length job % stepLength =? 0)) (jobLimit <? stepCount job) (payloadLimit <? pl) _ _ _
+    (not-is (length job % stepLength =? 0) _ (=?-is (length job % stepLength) 0)) (<?-is jobLimit (stepCount job)) (<?-is payloadLimit pl)
 
-  -- refused with n at i exactly where step i is the first with a number, and that is n
-  pub job-refused-at : (n i : ℕ) → (n ≡ 0 → ⊥) → jobRefusal part s job pl ≡ refusalAt n i ↔ First (numberAt (partOf part) s pl job) 0 (stepCount job) n i
-  job-refused-at n i z = (
-    λ e. refused-first (partOf part) s pl job 0 (stepCount job) (stepCount job) n i (omega arith) z (sym the-steps ∙ e),
-    λ h. the-steps ∙ first-refused (partOf part) s pl job 0 (stepCount job) (stepCount job) n i (omega arith) z h,
+module _ (part s : ℕ) (job : List ℕ) (pl : ℕ) where
+  abbrev steps : Refusal
+  steps = stepsRefusal (partOf part) (settingAt job s 0) pl job 0 (stepCount job)
+
+  the-steps : isPart part ≡ true → unfit job pl ≡ false → s ≤ settingLimit → jobRefusal part s job pl ≡ steps
+  unfolding jobRefusal settingAt if_then_else_
+  the-steps known fits small = rw (known, fits, le-ltb settingLimit s small)
+
+  abbrev Holds : Refusal → Type 0
+  Holds z = JobTurnedAway part s job pl (z .number) (z .index)
+
+  -- what is refused is refused for a reason
+  refused-holds : (jobRefusal part s job pl .number ≡ 0 → ⊥) → Holds (jobRefusal part s job pl)
+  unfolding jobRefusal settingAt if_then_else_
+  refused-holds h = go (isPart part) (unfit job pl) (settingLimit <? s) refl refl refl h
+    where
+      go : (k u o : Bool) → isPart part ≡ k → unfit job pl ≡ u → (settingLimit <? s) ≡ o
+          → ((if not k then refusal 1 else if u then refusal 20 else if o then refusal 21 else steps) .number ≡ 0 → ⊥)
+          → Holds (if not k then refusal 1 else if u then refusal 20 else if o then refusal 21 else steps)
+      go false u o e f g h = for-1 e
+      go true true o e f g h = for-20 e (unfit-is job pl .0 f)
+      go true false true e f g h = for-21 e (fails-is (unfit job pl) _ (unfit-is job pl) .0 f) (ltb-true settingLimit s g)
+      go true false false e f g h =
+          let q = refused-first (partOf part) s pl job 0 (stepCount job) (stepCount job) (steps .number) (steps .index) (omega arith) h refl in
+          for-step e (fails-is (unfit job pl) _ (unfit-is job pl) .0 f) (ltb-false settingLimit s g) (steps .number) (steps .index) (q .there)
+          (λ j k. zero-right (partOf part) s pl job j (q .before j (omega arith) k))
+          (subst (Wrong (partOf part) (settingAt job s (steps .index)) pl job (steps .index)) (q .number)
+          (number-wrong (partOf part) (settingAt job s (steps .index)) pl job (steps .index) (λ z. h (sym (q .number) ∙ z))))
+
+  -- a reason refuses
+  holds-refused : (n i : ℕ) → JobTurnedAway part s job pl n i → (jobRefusal part s job pl ≡ refusalAt n i) × (n ≡ 0 → ⊥)
+  unfolding jobRefusal if_then_else_
+  holds-refused n i (for-1 e) = (rw e refl, λ z. omega arith)
+  holds-refused n i (for-20 e u) = (rw (e, unfit-is job pl .1 u) refl, λ z. omega arith)
+  holds-refused n i (for-21 e u h) = (rw (e, fails-is (unfit job pl) _ (unfit-is job pl) .1 u, lt-ltb settingLimit s h) refl, λ z. omega arith)
+  holds-refused n i (for-step e u h k j there before wrong) =
+      let q = wrong-number (partOf part) (settingAt job s j) pl job j k wrong in (
+        the-steps e (fails-is (unfit job pl) _ (unfit-is job pl) .1 u) h
+            ∙ first-refused (partOf part) s pl job 0 (stepCount job) (stepCount job) k j (omega arith) (q .1)
+            (record { from = omega arith; there = there; before = λ c a b. right-zero (partOf part) s pl job c (before c b); number = q .0 }),
+        q .1,
+      )
+
+  pub job-refused-exactly : (n i : ℕ) → (jobRefusal part s job pl ≡ refusalAt n i) × (n ≡ 0 → ⊥) ↔ JobTurnedAway part s job pl n i
+  job-refused-exactly n i = (
+    λ h. subst Holds (h .0) (refused-holds (λ e. h .1 (sym (ap (λ (z : Refusal). z .number) (h .0)) ∙ e))),
+    holds-refused n i,
   )
 
-  -- .. and then for the reason that document 01 gives for n
-  pub job-refused-because : (n i : ℕ) → (n ≡ 0 → ⊥) → jobRefusal part s job pl ≡ refusalAt n i → Because (partOf part) (settingAt job s i) pl (stepAt job i) n
-  job-refused-because n i z e = number-means (partOf part) (settingAt job s i) pl (stepAt job i) n (job-refused-at n i z .0 e .number) z
+  pub job-taken-exactly : jobRefusal part s job pl .number ≡ 0 ↔ ((n i : ℕ) → JobTurnedAway part s job pl n i → ⊥)
+  job-taken-exactly = (
+    λ e n i h. let q = holds-refused n i h in q .1 (sym (ap (λ (z : Refusal). z .number) (q .0)) ∙ e),
+    λ h. go (eqb (z .number) 0) refl h,
+  )
+    where
+      z : Refusal
+      z = jobRefusal part s job pl
 
--- ---- all that a job is refused for: "checks 1, 20, 21, then each step in order for 22 to 25"
-
-pub data Why (part s : ℕ) (job : List ℕ) (pl : ℕ) : Refusal → Type 0 where
-  for-1 : isPart part ≡ false → Why part s job pl (refusal 1)
-  for-20 : isPart part ≡ true → unfit job pl ≡ true → Why part s job pl (refusal 20)
-  for-21 : isPart part ≡ true → unfit job pl ≡ false → settingLimit < s → Why part s job pl (refusal 21)
-  for-step : isPart part ≡ true → unfit job pl ≡ false → s ≤ settingLimit → (n i : ℕ) → First (numberAt (partOf part) s pl job) 0 (stepCount job) n i
-      → Because (partOf part) (settingAt job s i) pl (stepAt job i) n → Why part s job pl (refusalAt n i)
-
-pub job-refused-only-why : (part s : ℕ) (job : List ℕ) (pl : ℕ) → (jobRefusal part s job pl .number ≡ 0 → ⊥) → Why part s job pl (jobRefusal part s job pl)
-unfolding jobRefusal settingAt if_then_else_
-job-refused-only-why part s job pl h = go (isPart part) (unfit job pl) (settingLimit <? s) refl refl refl h
-  where
-    z : Refusal
-    z = stepsRefusal (partOf part) s pl job 0 (stepCount job)
-
-    go : (k u o : Bool) → isPart part ≡ k → unfit job pl ≡ u → (settingLimit <? s) ≡ o
-        → ((if not k then refusal 1 else if u then refusal 20 else if o then refusal 21 else z) .number ≡ 0 → ⊥)
-        → Why part s job pl (if not k then refusal 1 else if u then refusal 20 else if o then refusal 21 else z)
-    go false u o e f g h = for-1 e
-    go true true o e f g h = for-20 e f
-    go true false true e f g h = for-21 e f (ltb-true settingLimit s g)
-    go true false false e f g h =
-        let small = ltb-false settingLimit s g in
-        let q = the-steps part s job pl e f small in
-        for-step e f small (z .number) (z .index) (job-refused-at part s job pl e f small (z .number) (z .index) h .0 q)
-        (job-refused-because part s job pl e f small (z .number) (z .index) h q)
+      go : (t : Bool) → eqb (z .number) 0 ≡ t → ((n i : ℕ) → JobTurnedAway part s job pl n i → ⊥) → z .number ≡ 0
+      go true e h = eqb-true (z .number) 0 e
+      go false e h = absurd (h (z .number) (z .index) (refused-holds (eqb-false (z .number) 0 e)))

@@ -6,7 +6,7 @@ use mathlib.Core.Logic.{_⊎_, inl, inr, ⊎-elim}
 use Prim.Native.Nat.{ℕ, zero, suc, _≤_}
 use native.Mathlib.Omega.{arith}
 use lib.Dec.{eqb}
-use lib.ListN.{length, getD}
+use lib.ListN.{length}
 use borrow.Author.Tests.{eq-eqb, eqb-false, le-leb}
 use Rattle.lists.specs.Choice.{if_then_else_, _=?_, _≤?_}
 use Rattle.lists.proofs.Choice.{either-false, by-choice}
@@ -19,27 +19,23 @@ use Rattle.rules.specs.declared.Refusal.{Refusal}
 use Rattle.rules.specs.declared.Decoded.{Decoded}
 use Rattle.rules.specs.declared.Decoded.the-variants.{Good, Bad}
 use Rattle.rules.specs.declared.Kind.{Kind}
-use Rattle.rules.specs.declared.Command.the-variants.{Known}
-use Rattle.rules.specs.declared.Verdict.{Verdict}
-use Rattle.rules.specs.declared.Verdict.the-variants.{CarriedOut, Ignored}
 use Rattle.rules.specs.Kinds.{codeOf}
-use Rattle.rules.specs.Part.{Part, commandOf}
+use Rattle.rules.specs.Part.{Part}
 use Rattle.rules.specs.Parts.{partOf}
 use Rattle.rules.specs.Status.{regsOf}
-use Rattle.rules.specs.Verdict.{verdictTold, verdictOf}
-use Rattle.rules.specs.Transaction.{turnBy, turnOf}
 use Rattle.rules.specs.Refusals.{refusal, accepted, _orElse_, transactRefusal, eventRefusal}
-use Rattle.rules.specs.Transact.{TransactSeen, isHigh, transactServed, transactRefused, transactBy, transactOf}
-use Rattle.rules.specs.EventEntries.{EventTold, eventBy, finishOf, powerCycleOf}
+use Rattle.rules.specs.Transact.{TransactSeen, isHigh, transactOf}
+use Rattle.rules.specs.Events.{finished, powerCycled}
+use Rattle.rules.specs.EventEntries.{EventTold, eventOf, finishOf, powerCycleOf}
 use Rattle.rules.specs.Tape.{firstBad}
-use Rattle.rules.specs.Replay.{badRecord, recordsRefusal, replayRefusal, ReplaySeen, replayServed, replayRefused, replayBy, replayFirstOf, replayOf}
+use Rattle.rules.specs.Replay.{badRecord, recordsRefusal, replayRefusal, ReplaySeen, replayServed, replayRefused, replayFirstOf, replayOf}
 use Rattle.rules.specs.Job.{stepAt, stepCount}
 use Rattle.rules.specs.JobRefusals.{stepNumber, decodedNumber, settingAfter, stepsRefusal, jobRefusal}
-use Rattle.rules.specs.Translate.{translateRefusal, TranslateSeen, translateBy, translateOf, BillTold, quoteBy, quoteOf}
-use Rattle.rules.specs.CEntries.{tbEvent, tbBill, tbTransact, tbReplay, tbTranslate}
-use Rattle.laws.proofs.CarriedOut.{carried-passed}
-use Rattle.claims.proofs.Choices.{either-true}
+use Rattle.rules.specs.Translate.{translateRefusal, TranslateSeen, translateOf, BillTold, quoteOf}
+use Rattle.tunebriar.specs.CEntries.{tbEvent, tbBill, tbTransact, tbReplay, tbTranslate}
+use Rattle.claims.proofs.Choices.{either-true, never}
 use Rattle.claims.proofs.Ignored.{ignored-number}
+use Rattle.claims.proofs.Entry.{FirstSays, by-answer, answered-0}
 
 -- ---- the statement
 
@@ -102,18 +98,14 @@ unfolding if_then_else_
 tells served number Fine row z a b fa fine fb same h = go (eqb (z .number) 0) refl
   where
     go : (t : Bool) → eqb (z .number) 0 ≡ t → Tells Fine (row ++ []) (served (if t then a else b)) (number (if t then a else b))
-    go true e = record { of-served = λ q. fine; of-refused = λ q. let w : _≡_ {A = Bool} true false = sym fa ∙ q in let c : _≡_ {A = ℕ} 0 1 = cc in absurd (omega arith) }
+    go true e = record { of-served = λ q. fine; of-refused = λ q. never (sym fa ∙ q) }
     go false e =
         record {
-          of-served = λ q. let w : _≡_ {A = Bool} true false = sym q ∙ fb in let c : _≡_ {A = ℕ} 0 1 = cc in absurd (omega arith);
+          of-served = λ q. never (sym q ∙ fb);
           of-refused = λ q. rw same (earlier row [] (z .number) (eqb-false (z .number) 0 e) h);
         }
 
 -- ---- transact: 0 or 10 to 16 against 1 to 7
-
-verdict-number : (p : Part) (r : Regs) (b : List ℕ) (x : ℕ) (high : Bool) (v : Verdict) → verdictOf p r b x high ≡ v → VerdictNumber (verdictTold v .number)
-verdict-number p r b x high (CarriedOut k) e = inl refl
-verdict-number p r b x high (Ignored w) e = inr (ignored-number p r b x high w e)
 
 pub transact-row : (part al : ℕ) (kept : Kept) (n x ol : ℕ) (m : Meter) → InRow (1 ∷ 2 ∷ 3 ∷ 4 ∷ 5 ∷ 6 ∷ 7 ∷ 0 ∷ []) (transactRefusal part al kept n x ol m .number)
 unfolding transactRefusal
@@ -123,28 +115,31 @@ transact-row part al kept n x ol m =
 
 pub transact-number-tells : (part : ℕ) (kept : Kept) (m : Meter) (l o b : List ℕ) (x wp : ℕ)
     → Tells VerdictNumber (1 ∷ 2 ∷ 3 ∷ 4 ∷ 5 ∷ 6 ∷ 7 ∷ []) (transactOf part kept m l o b x wp .answer .served) (transactOf part kept m l o b x wp .answer .number)
-unfolding transactOf transactBy transactServed transactRefused turnOf
 transact-number-tells part kept m l o b x wp =
-    tells (λ (s : TransactSeen). s .answer .served) (λ (s : TransactSeen). s .answer .number) VerdictNumber (1 ∷ 2 ∷ 3 ∷ 4 ∷ 5 ∷ 6 ∷ 7 ∷ [])
-    (transactRefusal part (length l) kept (length b) x (length o) m) _ _ refl
-    (verdict-number (partOf part) (regsOf kept) b x (isHigh wp) _ refl) refl refl (transact-row part (length l) kept (length b) x (length o) m)
+    by-answer part kept m l o b x wp (λ s. Tells VerdictNumber (1 ∷ 2 ∷ 3 ∷ 4 ∷ 5 ∷ 6 ∷ 7 ∷ []) (s .answer .served) (s .answer .number))
+    (λ c k e. record { of-served = λ q. inl refl; of-refused = never })
+    (λ c w e. record { of-served = λ q. inr (ignored-number (partOf part) (regsOf kept) b x (isHigh wp) w e); of-refused = never })
+    (λ h k. record {
+      of-served = λ q. never (sym q);
+      of-refused = λ q. earlier (1 ∷ 2 ∷ 3 ∷ 4 ∷ 5 ∷ 6 ∷ 7 ∷ []) [] _ (λ n. omega arith) (transact-row part (length l) kept (length b) x (length o) m);
+    })
 
 -- ---- finish and power cycle: 0 against 1 and 3
 
-event-tells : (part : ℕ) (kept : Kept) (r : Regs)
-    → Tells Zero (1 ∷ 3 ∷ []) (eventBy (eventRefusal part kept) kept r .served) (eventBy (eventRefusal part kept) kept r .number)
-unfolding eventBy eventRefusal
-event-tells part kept r =
+event-tells : (part : ℕ) (kept : Kept) (makes : Regs → Regs)
+    → Tells Zero (1 ∷ 3 ∷ []) (eventOf part kept makes .served) (eventOf part kept makes .number)
+unfolding eventOf eventRefusal
+event-tells part kept makes =
     tells (λ (t : EventTold). t .served) (λ (t : EventTold). t .number) Zero (1 ∷ 3 ∷ []) (eventRefusal part kept) _ _ refl refl refl refl
     (check num _ (refusal 1) _ _ (check num _ (refusal 3) _ _ no-refusal))
 
 pub finish-number-tells : (part : ℕ) (kept : Kept) → Tells Zero (1 ∷ 3 ∷ []) (finishOf part kept .served) (finishOf part kept .number)
 unfolding finishOf
-finish-number-tells part kept = event-tells part kept _
+finish-number-tells part kept = event-tells part kept finished
 
 pub power-cycle-number-tells : (part : ℕ) (kept : Kept) → Tells Zero (1 ∷ 3 ∷ []) (powerCycleOf part kept .served) (powerCycleOf part kept .number)
 unfolding powerCycleOf
-power-cycle-number-tells part kept = event-tells part kept _
+power-cycle-number-tells part kept = event-tells part kept powerCycled
 
 -- ---- replay, of all records or of the first k: 0 against 1, 2, 3, 30, 31 and 7
 
@@ -161,7 +156,7 @@ replay-row part al kept m t =
 
 pub replay-first-number-tells : (part : ℕ) (kept : Kept) (m : Meter) (l t : List ℕ) (k : ℕ)
     → Tells Zero (1 ∷ 2 ∷ 3 ∷ 30 ∷ 31 ∷ 7 ∷ []) (replayFirstOf part kept m l t k .answer .served) (replayFirstOf part kept m l t k .answer .number)
-unfolding replayFirstOf replayBy replayServed replayRefused
+unfolding replayFirstOf replayServed replayRefused
 replay-first-number-tells part kept m l t k =
     tells (λ (s : ReplaySeen). s .answer .served) (λ (s : ReplaySeen). s .answer .number) Zero (1 ∷ 2 ∷ 3 ∷ 30 ∷ 31 ∷ 7 ∷ [])
     (replayRefusal part (length l) kept m t) _ _ refl refl refl refl (replay-row part (length l) kept m t)
@@ -193,7 +188,7 @@ job-row part s job pl =
 
 pub translate-number-tells : (part s : ℕ) (job payload tape : List ℕ)
     → Tells Zero (1 ∷ 20 ∷ 21 ∷ 22 ∷ 23 ∷ 24 ∷ 25 ∷ 26 ∷ []) (translateOf part s job payload tape .answer .served) (translateOf part s job payload tape .answer .number)
-unfolding translateOf translateBy translateRefusal
+unfolding translateOf translateRefusal
 translate-number-tells part s job payload tape =
     tells (λ (w : TranslateSeen). w .answer .served) (λ (w : TranslateSeen). w .answer .number) Zero (1 ∷ 20 ∷ 21 ∷ 22 ∷ 23 ∷ 24 ∷ 25 ∷ 26 ∷ [])
     (translateRefusal part s job payload (length tape)) _ _ refl refl refl refl
@@ -202,7 +197,7 @@ translate-number-tells part s job payload tape =
 
 pub quote-number-tells : (part s : ℕ) (job : List ℕ) (pl : ℕ)
     → Tells Zero (1 ∷ 20 ∷ 21 ∷ 22 ∷ 23 ∷ 24 ∷ 25 ∷ []) (quoteOf part s job pl .served) (quoteOf part s job pl .number)
-unfolding quoteOf quoteBy
+unfolding quoteOf
 quote-number-tells part s job pl =
     tells (λ (t : BillTold). t .served) (λ (t : BillTold). t .number) Zero (1 ∷ 20 ∷ 21 ∷ 22 ∷ 23 ∷ 24 ∷ 25 ∷ [])
     (jobRefusal part s job pl) _ _ refl refl refl refl (job-row part s job pl)
@@ -280,18 +275,7 @@ quote-served-told part s job pl =
 
 pub kind-told : (part : ℕ) (kept : Kept) (m : Meter) (l o b : List ℕ) (x wp : ℕ)
     → transactOf part kept m l o b x wp .answer .served ≡ true → transactOf part kept m l o b x wp .answer .number ≡ 0
-    → (k : Kind) × (commandOf (partOf part) (getD b 0 0) ≡ Known k) × (transactOf part kept m l o b x wp .answer .code ≡ codeOf k)
-unfolding transactOf transactBy transactServed transactRefused turnOf if_then_else_
-kind-told part kept m l o b x wp = go (accepted z) (verdictOf (partOf part) (regsOf kept) b x (isHigh wp)) refl
-  where
-    z : Refusal
-    z = transactRefusal part (length l) kept (length b) x (length o) m
-
-    seen : Bool → Verdict → TransactSeen
-    seen t v = if t then transactServed kept m o b (turnBy (partOf part) (regsOf kept) l b v) else transactRefused kept m l o z
-
-    go : (t : Bool) (v : Verdict) → verdictOf (partOf part) (regsOf kept) b x (isHigh wp) ≡ v → seen t v .answer .served ≡ true → seen t v .answer .number ≡ 0
-        → (k : Kind) × (commandOf (partOf part) (getD b 0 0) ≡ Known k) × (seen t v .answer .code ≡ codeOf k)
-    go true (CarriedOut k) e s n = (k, carried-passed (partOf part) (regsOf kept) b x (isHigh wp) k e .known, refl)
-    go true (Ignored w) e s n = let h = ignored-number (partOf part) (regsOf kept) b x (isHigh wp) w e in absurd (omega arith)
-    go false v e s n = let c : _≡_ {A = ℕ} 0 1 = cc in absurd (omega arith)
+    → (k : Kind) × FirstSays part b k × (transactOf part kept m l o b x wp .answer .code ≡ codeOf k)
+kind-told part kept m l o b x wp s n =
+    let h = answered-0 part kept m l o b x wp n in
+    (h .0, h .1 .known, ap (λ (w : TransactSeen). w .answer .code) (h .1 .seen-is))

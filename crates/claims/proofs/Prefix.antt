@@ -11,7 +11,7 @@ use Rattle.rules.specs.declared.Meter.{Meter}
 use Rattle.rules.specs.Part.{Part}
 use Rattle.rules.specs.Tape.{Rec, finish, recAt, recsFrom, records, recsOf}
 use Rattle.rules.specs.Play.{State, playRec, play}
-use Rattle.rules.specs.Replay.{replayBy, replayFirstOf, replayOf}
+use Rattle.rules.specs.Replay.{replayFirstOf, replayOf}
 
 pub play-append : (p : Part) (xs ys : List Rec) (s : State) → play p (xs ++ ys) s ≡ play p ys (play p xs s)
 unfolding play
@@ -52,7 +52,7 @@ replay-is-replay-first part kept m l t = refl
 
 -- .. and asked for more than there are, a replay of the first plays all
 pub replay-first-past : (part : ℕ) (kept : Kept) (m : Meter) (l t : List ℕ) (k : ℕ) → records t ≤ k → replayFirstOf part kept m l t k ≡ replayOf part kept m l t
-unfolding replayOf replayFirstOf replayBy
+unfolding replayOf replayFirstOf
 replay-first-past part kept m l t k h =
     let e : length (recsOf t) ≡ records t = recs-length t 0 (records t) in
     rw (take-all k (recsOf t) (omega arith), take-all (records t) (recsOf t) (omega arith))

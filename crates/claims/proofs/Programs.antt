@@ -1,5 +1,5 @@
 -- Document 01, "Program": "Data go to the page of the address"; "Each place sent becomes old AND new; no other byte changes."
-use mathlib.Core.Path.{_≡_, ap, _∙_}
+use mathlib.Core.Path.{_≡_, refl, ap, _∙_}
 use mathlib.Core.Bool.{Bool}
 use mathlib.Core.List.{List, [], _∷_}
 use Prim.Native.Nat.{ℕ, suc, _+_, _-_, _/_, _%_, _≤_}
@@ -9,17 +9,23 @@ use lib.Bits.{bitAnd, and-step, and-zero-l, and-self, and-le-r}
 use lib.ListN.{length, getD, drop}
 use Rattle.lists.specs.Choice.{_=?_}
 use Rattle.lists.proofs.Choice.{by-choice}
+use Rattle.rules.specs.declared.Kept.{Kept}
+use Rattle.rules.specs.declared.Meter.{Meter}
 use Rattle.rules.specs.declared.Regs.{Regs}
 use Rattle.rules.specs.declared.Write.the-variants.{Program}
 use Rattle.rules.specs.declared.Kind.the-variants.{Writes}
 use Rattle.rules.specs.declared.Verdict.the-variants.{CarriedOut}
 use Rattle.rules.specs.Units.{page, pageStart}
 use Rattle.rules.specs.Part.{Part}
+use Rattle.rules.specs.Parts.{partOf}
+use Rattle.rules.specs.Status.{regsOf}
 use Rattle.rules.specs.Cells.{cell, programmed}
 use Rattle.rules.specs.Verdict.{addressOf, verdictOf}
 use Rattle.rules.specs.Transaction.{turnOf}
-use Rattle.laws.proofs.Sound.{Sound, reach-end}
+use Rattle.rules.specs.Transact.{isHigh, transactOf}
+use Rattle.laws.proofs.Sound.{Sound, reach-end, part-sound}
 use Rattle.claims.proofs.Reach.{In, patched-either, written, address-inside, outside-reach}
+use Rattle.claims.proofs.Entry.{FirstSays, by-array, carried-as}
 
 -- ---- AND only clears
 
@@ -76,3 +82,20 @@ module _ (p : Part) (sound : Sound p) (r : Regs) (l b : List ℕ) (x : ℕ) (hig
   program-only-lowers y =
       let new = getD (turnOf p r l b x high .array) y 0 in
       omega (arith, program-only-clears y, and-le-r new (getD l y 0))
+
+-- .. and so in what a caller of the entry is left with, for any part number, registers, meter, array, output, bytes and level: of
+-- a transaction whose first byte says a program, whatever it answers (ignored or refused, it leaves the whole array)
+module _ (part : ℕ) (kept : Kept) (m : Meter) (l o b : List ℕ) (x wp : ℕ) (says : FirstSays part b (Writes Program)) where
+  pub program-stays-in-its-page-lent : (y : ℕ) → (InPage (addressOf (partOf part) b) y → ⊥) → getD (transactOf part kept m l o b x wp .array) y 0 ≡ getD l y 0
+  program-stays-in-its-page-lent y out =
+      by-array part kept m l o b x wp (λ a. getD a y 0 ≡ getD l y 0)
+      (λ c k e. program-stays-in-its-page (partOf part) (part-sound part) (regsOf kept) l b x (isHigh wp) (c .begun .long)
+      (carried-as part kept m l o b x wp (Writes Program) k says e) y out)
+      refl
+
+  pub program-only-clears-lent : (y : ℕ) → Cleared (getD (transactOf part kept m l o b x wp .array) y 0) (getD l y 0)
+  program-only-clears-lent y =
+      by-array part kept m l o b x wp (λ a. Cleared (getD a y 0) (getD l y 0))
+      (λ c k e. program-only-clears (partOf part) (part-sound part) (regsOf kept) l b x (isHigh wp) (c .begun .long)
+      (carried-as part kept m l o b x wp (Writes Program) k says e) y)
+      (and-self (getD l y 0))

@@ -11,7 +11,8 @@ use denote.Ref.{now}
 use Rattle.lists.specs.Choice.{if_then_else_}
 use Rattle.rules.specs.declared.AtPlace.{AtPlace}
 use Rattle.rules.specs.declared.AtPlace.the-variants.{End}
-use Rattle.rules.specs.Tape.{recAt, records, whole, goodRecord, readAt, nextPlace, readOf}
+use Rattle.rules.specs.Tape.{recAt, records, whole, goodRecord}
+use Rattle.rules.specs.Reading.{readAt, nextPlace, readOf}
 use Rattle.tape.specs.declared.Reader.{Reader}
 use Rattle.tape.specs.Record.{recOf}
 use Rattle.tape.specs.Moves.{told, found, after}

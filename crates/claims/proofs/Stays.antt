@@ -1,16 +1,13 @@
 -- Document 01, verdict 16: a protected byte stays, whatever is sent and whatever the verdict.
 use mathlib.Core.Path.{_≡_, refl, ap}
-use mathlib.Core.Bool.{Bool, true, false}
+use mathlib.Core.Bool.{Bool, true}
 use mathlib.Core.List.{List}
 use Prim.Native.Nat.{ℕ}
 use native.Mathlib.Omega.{arith}
 use lib.ListN.{length, getD}
-use borrow.Author.Tests.{eqb-true}
-use Rattle.lists.specs.Choice.{if_then_else_}
 use Rattle.rules.specs.declared.Regs.{Regs}
 use Rattle.rules.specs.declared.Kept.{Kept}
 use Rattle.rules.specs.declared.Meter.{Meter}
-use Rattle.rules.specs.declared.Refusal.{Refusal}
 use Rattle.rules.specs.declared.Write.{Write}
 use Rattle.rules.specs.declared.Kind.the-variants.{Writes}
 use Rattle.rules.specs.declared.Verdict.{Verdict}
@@ -23,13 +20,12 @@ use Rattle.rules.specs.Protection.{isProtected}
 use Rattle.rules.specs.Writes.{reachStart, reachLength, arrayWritten}
 use Rattle.rules.specs.Verdict.{addressOf, verdictOf}
 use Rattle.rules.specs.Transaction.{arrayAfter, turnOf}
-use Rattle.rules.specs.Refusals.{accepted, transactRefusal}
-use Rattle.rules.specs.Transact.{isHigh, transactServed, transactRefused, transactBy, transactOf}
-use Rattle.laws.proofs.Accepted.{taken}
+use Rattle.rules.specs.Transact.{isHigh, transactOf}
 use Rattle.laws.proofs.Sound.{Sound, part-sound}
 use Rattle.laws.proofs.Protection.{none-protected}
 use Rattle.laws.proofs.CarriedOut.{by-write, carried-passed}
-use Rattle.claims.proofs.Reach.{In, address-inside, outside-reach}
+use Rattle.claims.proofs.Reach.{In, address-inside, outside-reach, written-length}
+use Rattle.claims.proofs.Entry.{by-answer, by-array}
 
 module _ (p : Part) (sound : Sound p) (r : Regs) (l b : List ℕ) (x : ℕ) (high : Bool) (long : length l ≡ p .size) where
   -- the bytes that a write which is carried out may touch are not protected
@@ -61,15 +57,20 @@ protected-byte-stays p sound r l b x high long y h = stays-at p sound r l b x hi
 pub protected-byte-stays-lent : (part : ℕ) (kept : Kept) (m : Meter) (l o b : List ℕ) (x wp : ℕ)
     → (y : ℕ) → isProtected (partOf part) (regsOf kept .setting) y ≡ true
     → getD (transactOf part kept m l o b x wp .array) y 0 ≡ getD l y 0
-unfolding transactOf transactBy transactServed transactRefused if_then_else_
-protected-byte-stays-lent part kept m l o b x wp y h = go (accepted z) refl
-  where
-    z : Refusal
-    z = transactRefusal part (length l) kept (length b) x (length o) m
+protected-byte-stays-lent part kept m l o b x wp y h =
+    by-array part kept m l o b x wp (λ a. getD a y 0 ≡ getD l y 0)
+    (λ c k e. protected-byte-stays (partOf part) (part-sound part) (regsOf kept) l b x (isHigh wp) (c .begun .long) y h)
+    refl
 
-    go : (t : Bool) → accepted z ≡ t
-        → getD ((if t then transactServed kept m o b (turnOf (partOf part) (regsOf kept) l b x (isHigh wp)) else transactRefused kept m l o z) .array) y 0 ≡ getD l y 0
-    go true e =
-        let c = taken part (length l) kept (length b) x (length o) m (eqb-true _ _ e) in
-        protected-byte-stays (partOf part) (part-sound part) (regsOf kept) l b x (isHigh wp) (c .begun .long) y h
-    go false e = refl
+-- .. and the array has as many bytes as it had
+pub array-as-long-lent : (part : ℕ) (kept : Kept) (m : Meter) (l o b : List ℕ) (x wp : ℕ) → length (transactOf part kept m l o b x wp .array) ≡ length l
+unfolding ofWrite
+array-as-long-lent part kept m l o b x wp =
+    let p = partOf part in
+    by-answer part kept m l o b x wp (λ s. length (s .array) ≡ length l)
+    (λ c k e.
+    by-write (λ j. length (arrayAfter p l b (CarriedOut j)) ≡ length l)
+    (λ j q. ap length (q .writes-nothing (List ℕ) l (arrayWritten p l b (addressOf p b))))
+    (written-length p (part-sound part) l b (addressOf p b) (c .begun .long) (address-inside p (part-sound part) b)) k)
+    (λ c w e. refl)
+    (λ h k. refl)

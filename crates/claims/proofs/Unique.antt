@@ -13,7 +13,7 @@ use Rattle.rules.specs.declared.Translated.{Translated}
 use Rattle.rules.specs.declared.Quoted.{Quoted}
 use Rattle.rules.specs.Transact.{TransactSeen, transactTold, transactSeen, transactOf}
 use Rattle.rules.specs.EventEntries.{eventTold, finishOf, powerCycleOf}
-use Rattle.rules.specs.Tape.{readTold, readOf}
+use Rattle.rules.specs.Reading.{readTold, readOf}
 use Rattle.rules.specs.Replay.{ReplaySeen, replayTold, replaySeen, replayFirstOf, replayOf}
 use Rattle.rules.specs.Translate.{TranslateSeen, translateTold, translateSeen, translateOf, quoteTold, quoteOf}
 use Rattle.rules.proofs.Apart.{transacted-apart, events-apart, replayed-apart, reads-apart, translated-apart, quoted-apart}

@@ -6,19 +6,19 @@ use Prim.Native.Nat.{ℕ}
 use lib.ListN.{length}
 use Rattle.rules.specs.declared.Kept.{Kept}
 use Rattle.rules.specs.declared.Meter.{Meter}
-use Rattle.rules.specs.declared.TbAnswer.{TbAnswer}
-use Rattle.rules.specs.declared.TbEvent.{TbEvent}
-use Rattle.rules.specs.declared.TbTape.{TbTape}
-use Rattle.rules.specs.declared.TbBill.{TbBill}
-use Rattle.rules.specs.declared.TbRecord.{TbRecord}
+use Rattle.tunebriar.specs.declared.TbAnswer.{TbAnswer}
+use Rattle.tunebriar.specs.declared.TbEvent.{TbEvent}
+use Rattle.tunebriar.specs.declared.TbTape.{TbTape}
+use Rattle.tunebriar.specs.declared.TbBill.{TbBill}
+use Rattle.tunebriar.specs.declared.TbRecord.{TbRecord}
 use Rattle.rules.specs.Transact.{transactOf}
 use Rattle.rules.specs.declared.Metered.{Metered}
 use Rattle.rules.specs.CountEntry.{metered, countOf}
 use Rattle.rules.specs.EventEntries.{finishOf, powerCycleOf}
-use Rattle.rules.specs.Tape.{readOf}
+use Rattle.rules.specs.Reading.{readOf}
 use Rattle.rules.specs.Replay.{replayFirstOf, replayOf}
 use Rattle.rules.specs.Translate.{translateOf, quoteOf}
-use Rattle.rules.specs.CEntries.{TbSeen, TbPlayed, TbTranslated, tbEvent, tbBill, tbRecord, tbTransact, tbReplay, tbTranslate, tbSeen, tbPlayed, tbTranslated}
+use Rattle.tunebriar.specs.CEntries.{TbSeen, TbPlayed, TbTranslated, tbEvent, tbBill, tbRecord, tbTransact, tbReplay, tbTranslate, tbSeen, tbPlayed, tbTranslated}
 
 -- ---- slices are lent: the answer and their contents
 

@@ -8,7 +8,7 @@ use Rattle.rules.specs.declared.Meter.{Meter}
 use Rattle.rules.specs.declared.Metered.{Metered}
 use Rattle.rules.specs.declared.AtPlace.{AtPlace}
 use Rattle.rules.specs.CountEntry.{countOf}
-use Rattle.rules.specs.Tape.{readTold, readOf}
+use Rattle.rules.specs.Reading.{readTold, readOf}
 use Rattle.tape.specs.declared.Reading.{Reading}
 use Rattle.tape.specs.declared.Reader.{Reader}
 use Rattle.tape.specs.Moves.{told, found, after}

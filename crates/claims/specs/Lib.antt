@@ -1,1 +1,4 @@
 pub mod Means
+pub mod TurnedAway
+pub mod ProtectionTable
+pub mod Witness

@@ -7,7 +7,8 @@ use Rattle.rules.specs.declared.Step.{Step}
 use Rattle.rules.specs.Part.{Part}
 use Rattle.rules.specs.Play.{State, state, play}
 use Rattle.rules.specs.Job.{arrayMeant, allRegsMeant}
-use Rattle.rules.specs.Records.{jobRecs, stepBill, billOf}
+use Rattle.rules.specs.Records.{jobRecs}
+use Rattle.rules.specs.Bill.{stepBill, billOf}
 use Rattle.demand.specs.Raised.{raised}
 use Rattle.demand.proofs.Tapeable.{Tapeable}
 use Rattle.demand.proofs.Fit.{Fit}

@@ -13,7 +13,8 @@ use Rattle.rules.specs.Kinds.{codeOf}
 use Rattle.rules.specs.Part.{Part}
 use Rattle.rules.specs.Tape.{recordLength, sentLimit}
 use Rattle.rules.specs.Job.{settingLimit, layBytes, settingMeant}
-use Rattle.rules.specs.Records.{threeRecs, eraseBytes, leftInPage, pageRecs, pagesTouched, stepRecs, jobRecs, stepBill, billOf}
+use Rattle.rules.specs.Records.{threeRecs, eraseBytes, leftInPage, pageRecs, stepRecs, jobRecs}
+use Rattle.rules.specs.Bill.{pagesTouched, stepBill, billOf}
 use Rattle.laws.proofs.RecordOk.{RecsOk, no-recs, next, transaction-ok, finish-ok, ok-append}
 use Rattle.demand.proofs.Tapeable.{Tapeable}
 use Rattle.demand.proofs.Accept.{JobOk}

@@ -18,7 +18,8 @@ use Rattle.rules.specs.Verdict.{addressOf}
 use Rattle.rules.specs.Tape.{Rec}
 use Rattle.rules.specs.Play.{State, state, play}
 use Rattle.rules.specs.Job.{laid}
-use Rattle.rules.specs.Records.{threeRecs, addressBytes, leftInPage, pageRecs, pagesTouched, tapeLength}
+use Rattle.rules.specs.Records.{threeRecs, addressBytes, leftInPage, pageRecs}
+use Rattle.rules.specs.Bill.{pagesTouched, tapeLength}
 use Rattle.demand.specs.Raised.{raised}
 use Rattle.demand.proofs.Lay.{program-is-lay, laid-length, lay-lay}
 use Rattle.demand.proofs.Tapeable.{Tapeable}

@@ -7,7 +7,7 @@ use Rattle.rules.specs.declared.Write.the-variants.{Program, Erase, WriteStatus
 use Rattle.rules.specs.declared.Meter.{Meter}
 use Rattle.rules.specs.declared.Bill.{Bill}
 use Rattle.rules.specs.Counts.{counted}
-use Rattle.rules.specs.Records.{tapeLength, noBill, _plus_}
+use Rattle.rules.specs.Bill.{tapeLength, noBill, _plus_}
 use Rattle.demand.specs.Raised.{raised}
 
 -- the bill of one write: three records

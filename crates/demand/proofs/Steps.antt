@@ -25,7 +25,8 @@ use Rattle.rules.specs.Tape.{Rec}
 use Rattle.rules.specs.Play.{State, state, play}
 use Rattle.rules.specs.Job.{settingLimit, layBytes, meant, settingMeant, guarded, regsMeant}
 use Rattle.rules.specs.JobRefusals.{beyond}
-use Rattle.rules.specs.Records.{eraseBytes, pagesTouched, stepRecs, stepBill}
+use Rattle.rules.specs.Records.{eraseBytes, stepRecs}
+use Rattle.rules.specs.Bill.{pagesTouched, stepBill}
 use Rattle.laws.proofs.Sound.{unit-end}
 use Rattle.laws.proofs.Inside.{lay-inside, erase-inside}
 use Rattle.laws.proofs.JobPassed.{StepOk, lay-covered, step-bare}

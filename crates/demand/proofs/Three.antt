@@ -17,7 +17,9 @@ use Rattle.rules.specs.Kinds.{codeOf, ofWrite, ofKnown}
 use Rattle.rules.specs.Part.{Part, shaped}
 use Rattle.rules.specs.Status.{withWel, withBusy}
 use Rattle.rules.specs.Writes.{reachStart, reachLength, locked, lockedOut, regsWritten, arrayWritten}
-use Rattle.rules.specs.Verdict.{addressOf, unheardAsleep, unheardBusy, writeVerdict, kindVerdict, judgeOf, verdictOf}
+use Rattle.rules.specs.Verdict.{addressOf, unheardAsleep, unheardBusy, verdictOf}
+use Rattle.laws.specs.Judged.{writeVerdict, kindVerdict, judgeOf}
+use Rattle.laws.proofs.Judged.{verdict-judged}
 use Rattle.rules.specs.Transaction.{turnOf}
 use Rattle.rules.specs.Counts.{counted}
 use Rattle.rules.specs.Events.{finished}
@@ -62,10 +64,11 @@ finish-settles p r b WriteStatus = refl
 module _ (p : Part) (law : Tapeable p) where
   -- a chip that is awake and idle hears what is said
   heard : (r : Regs) → Calm r → (k : Kind) (b : List ℕ) → Says p k b → verdictOf p r b 0 true ≡ ofWrite k (CarriedOut k) (writeVerdict p r true (addressOf p b) k)
-  unfolding verdictOf judgeOf unheardAsleep unheardBusy ofKnown kindVerdict if_then_else_
+  unfolding judgeOf unheardAsleep unheardBusy ofKnown kindVerdict if_then_else_
   heard r c k b s =
       let not-empty = s .not-empty in
-      rw (ne-eqb (length b) 0 (λ e. omega arith), s .code, law .sound .codes k, c .awake, c .idle, s .shape)
+      verdict-judged p r b 0 true
+      ∙ rw (ne-eqb (length b) 0 (λ e. omega arith), s .code, law .sound .codes k, c .awake, c .idle, s .shape)
 
   enable-done : (r : Regs) → Calm r → verdictOf p r (codeOf WriteEnable ∷ []) 0 true ≡ CarriedOut WriteEnable
   unfolding ofWrite

@@ -1,2 +1,3 @@
 pub mod Raised
 pub mod Ignored
+pub mod JobRecs

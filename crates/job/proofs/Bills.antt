@@ -11,7 +11,7 @@ use Rattle.rules.specs.declared.Decoded.{Decoded}
 use Rattle.rules.specs.declared.Decoded.the-variants.{Good, Bad}
 use Rattle.rules.specs.declared.Bill.{Bill}
 use Rattle.rules.specs.Job.{stepAt, withStep, stepsFrom}
-use Rattle.rules.specs.Records.{stepBill, noBill, _plus_, billOf}
+use Rattle.rules.specs.Bill.{stepBill, noBill, _plus_, billOf}
 use Rattle.job.specs.Counted.{Billable, Upto, decodedBill}
 
 -- ---- at most

@@ -8,13 +8,10 @@ use Rattle.rules.specs.declared.Step.the-variants.{Lay}
 use Rattle.rules.specs.declared.Decoded.{Decoded}
 use Rattle.rules.specs.declared.Decoded.the-variants.{Good, Bad}
 use Rattle.rules.specs.declared.Bill.{Bill}
+use Rattle.rules.specs.Units.{addressEnd}
 use Rattle.rules.specs.Job.{stepAt, stepCount}
 use Rattle.rules.specs.JobRefusals.{jobLimit, layLimit}
-use Rattle.rules.specs.Records.{tapeLength, stepBill, noBill}
-
--- where three address bytes end
-abbrev pub addressEnd : ℕ
-addressEnd = 16777216
+use Rattle.rules.specs.Bill.{tapeLength, stepBill, noBill}
 
 -- the pages that a lay of layLimit bytes touches at most
 abbrev pub pageLimit : ℕ

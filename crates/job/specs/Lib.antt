@@ -1,3 +1,2 @@
 pub mod Carried
 pub mod Counted
-pub mod Width

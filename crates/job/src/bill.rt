@@ -1,6 +1,7 @@
 // What a job's tape costs, before it is made.
 use crate::decode;
 use rules::Bill;
+use rules::COMMAND_LENGTH;
 use rules::Decoded;
 use rules::PAGE;
 use rules::STEP_LENGTH;
@@ -10,17 +11,14 @@ ghost use mathlib.Core.Path.{_≡_};
 ghost use Prim.Native.Nat.{_≤_, _<_};
 ghost use Rattle.rules.specs.Job.{stepAt, stepCount, stepsOf};
 ghost use Rattle.rules.specs.JobRefusals.{jobLimit};
-ghost use Rattle.rules.specs.Records.{pagesTouched, stepBill, noBill, _plus_, billOf};
+ghost use Rattle.rules.specs.Bill.{pagesTouched, stepBill, noBill, _plus_, billOf};
 ghost use Rattle.job.specs.Counted.{pageLimit, Short, Billable, Counted, Upto, decodedBill};
 
-// The bytes of three records: 06, a write, a finish.
-const THREE: usize = 792;
-
-pub fn pages_touched(s: Span) -> usize
-    requires { ⌜ Short s ⌝ }
-    ensures { λ r. ⌜ (r ≡ pagesTouched (s .address) (s .length)) × (r ≤ pageLimit) ⌝ }
+pub fn pages_touched(span: Span) -> usize
+    requires { ⌜ Short span ⌝ }
+    ensures { λ r. ⌜ (r ≡ pagesTouched (span .address) (span .length)) × (r ≤ pageLimit) ⌝ }
 {
-    (s.address + s.length - 1) / PAGE - s.address / PAGE + 1
+    (span.address + span.length - 1) / PAGE - span.address / PAGE + 1
 }
 
 fn lay_bill(s: Span) -> Bill
@@ -32,12 +30,12 @@ fn lay_bill(s: Span) -> Bill
         programs: pages as u32,
         erases: 0,
         register_writes: 0,
-        length: THREE * pages,
+        length: COMMAND_LENGTH * pages,
     }
 }
 
-// 792 bytes are the three records of one command.
-pub fn step_bill(w: Step) -> Bill
+// A command is three records: 06, the write, a finish.
+fn step_bill(w: Step) -> Bill
     requires { ⌜ Billable w ⌝ }
     ensures { λ b. ⌜ b ≡ stepBill w ⌝ }
 {
@@ -46,14 +44,14 @@ pub fn step_bill(w: Step) -> Bill
             programs: 0,
             erases: 1,
             register_writes: 0,
-            length: THREE,
+            length: COMMAND_LENGTH,
         },
         Step::Lay(s) => lay_bill(s),
         Step::Guard(_) => Bill {
             programs: 0,
             erases: 0,
             register_writes: 1,
-            length: THREE,
+            length: COMMAND_LENGTH,
         },
     }
 }

@@ -1,12 +1,13 @@
 // What 16 bytes of a job say.
 use rules::Decoded;
 use rules::EraseUnit;
+use rules::SETTING_LIMIT;
 use rules::STEP_LENGTH;
 use rules::Span;
 use rules::Step;
 ghost use mathlib.Core.Path.{_≡_};
 ghost use Prim.Native.Nat.{_+_, _≤_, _<_};
-ghost use Rattle.job.specs.Width.{placeEnd};
+ghost use Rattle.lists.specs.Width.{numberEnd, placeEnd};
 ghost use Rattle.rules.specs.Job.{number4, zeros, unitBy, decodedErase, decodedLay, decodedGuard, stepAt};
 
 // Four bytes, big-endian.
@@ -80,7 +81,7 @@ fn guard_at(job: &[u8], a: usize) -> Decoded
     ensures { λ d. ⌜ d ≡ decodedGuard (now (job .entry)) a ⌝ }
 {
     let setting = lists::byte_at(job, a + 1);
-    if 31 < setting {
+    if SETTING_LIMIT < setting as u32 {
         return Decoded::Bad;
     }
     if !are_zeros(job, a + 4, 12) {
@@ -90,11 +91,11 @@ fn guard_at(job: &[u8], a: usize) -> Decoded
 }
 
 // Step i of a job; no job that is looked at has so many steps that 16 * i would wrap.
-pub fn step_at(job: &[u8], i: usize) -> Decoded
-    requires { ⌜ i < 4294967296 ⌝ }
-    ensures { λ d. ⌜ d ≡ stepAt (now (job .entry)) i ⌝ }
+pub fn step_at(job: &[u8], index: usize) -> Decoded
+    requires { ⌜ index < numberEnd ⌝ }
+    ensures { λ d. ⌜ d ≡ stepAt (now (job .entry)) index ⌝ }
 {
-    let a = STEP_LENGTH * i;
+    let a = STEP_LENGTH * index;
     if !are_zeros(job, a + 2, 2) {
         return Decoded::Bad;
     }

@@ -7,6 +7,7 @@ use rules::JOB_LIMIT;
 use rules::LAY_LIMIT;
 use rules::PAYLOAD_LIMIT;
 use rules::Refusal;
+use rules::SETTING_LIMIT;
 use rules::STEP_LENGTH;
 use rules::Span;
 use rules::Step;
@@ -15,7 +16,6 @@ ghost use mathlib.Core.Bool.{false};
 ghost use Prim.Native.Nat.{_≤_};
 ghost use Rattle.rules.specs.Parts.{partOf};
 ghost use Rattle.rules.specs.Job.{stepCount, settingMeant};
-ghost use Rattle.rules.specs.Refusals.{refusal};
 ghost use Rattle.rules.specs.JobRefusals.{jobLimit, unfit, chipNotAtZero, outside, beyond, stepStart, stepReach, shielded, stepNumber, decodedNumber, settingAfter, stepsRefusal, jobRefusal};
 
 // ---- 23: where a step lies
@@ -124,7 +124,7 @@ fn is_shielded(part: u32, s: u8, w: Step) -> bool
 // ---- one step
 
 // 23 to 25, 0 for none: at setting s.
-pub fn step_number(part: u32, s: u8, payload_length: usize, w: Step) -> u8
+fn step_number(part: u32, s: u8, payload_length: usize, w: Step) -> u8
     ensures { λ r. ⌜ r ≡ stepNumber (partOf part) s «payload_length» w ⌝ }
 {
     if is_outside(part, w) {
@@ -170,16 +170,6 @@ fn setting_after(s: u8, d: Decoded) -> u8
 
 // ---- the job
 
-// A refusal without an index; number 0 is none.
-fn refuse(number: u8) -> Refusal
-    ensures { λ z. ⌜ z ≡ refusal number ⌝ }
-{
-    Refusal {
-        number: number,
-        index: 0,
-    }
-}
-
 // Refusal 20.
 fn is_unfit(job: &[u8], payload_length: usize) -> bool
     ensures { λ t. ⌜ t ≡ unfit (now (job .entry)) «payload_length» ⌝ }
@@ -205,29 +195,26 @@ fn steps_refusal(part: u32, s: u8, job: &[u8], payload_length: usize) -> Refusal
         let d = decode::step_at(job, i);
         let number = decoded_number(part, setting, payload_length, d);
         if number != 0 {
-            return Refusal {
-                number: number,
-                index: i,
-            };
+            return refusals::refusal_at(number, i);
         }
         setting = setting_after(setting, d);
         i += 1;
     }
-    refuse(0)
+    refusals::refusal(0)
 }
 
 // Any input: the setting is judged at its full width, and no step is looked at before 20.
-pub fn job_refusal(part: u32, s: u32, job: &[u8], payload_length: usize) -> Refusal
-    ensures { λ z. ⌜ z ≡ jobRefusal part s (now (job .entry)) «payload_length» ⌝ }
+pub fn job_refusal(part: u32, setting: u32, job: &[u8], payload_length: usize) -> Refusal
+    ensures { λ z. ⌜ z ≡ jobRefusal part setting (now (job .entry)) «payload_length» ⌝ }
 {
     if !parts::is_part(part) {
-        return refuse(1);
+        return refusals::refusal(1);
     }
     if is_unfit(job, payload_length) {
-        return refuse(20);
+        return refusals::refusal(20);
     }
-    if 31 < s {
-        return refuse(21);
+    if SETTING_LIMIT < setting {
+        return refusals::refusal(21);
     }
-    steps_refusal(part, s as u8, job, payload_length)
+    steps_refusal(part, setting as u8, job, payload_length)
 }

@@ -17,25 +17,27 @@ ghost use Rattle.rules.specs.Parts.{partOf};
 ghost use Rattle.rules.specs.Units.{unitStart, unitLength};
 ghost use Rattle.rules.specs.Protection.{firstProtected};
 ghost use Rattle.rules.specs.Writes.{reachStart, reachLength, locked, lockedOut};
-ghost use Rattle.rules.specs.Verdict.{ignored, addressOf, unheardAsleep, unheardBusy, protectionVerdict, writeVerdict, kindVerdict, judgeOf, verdictOf};
+ghost use Rattle.rules.specs.Verdict.{ignored, addressOf, unheardAsleep, unheardBusy, verdictOf};
+ghost use Rattle.laws.specs.Judged.{protectionVerdict, writeVerdict, kindVerdict, judgeOf};
+ghost use Rattle.lists.specs.Width.{numberEnd};
 
 // ---- where a write reaches
 
-pub fn unit_start(u: EraseUnit, a: usize) -> usize
-    ensures { λ r. ⌜ r ≡ unitStart u a ⌝ }
+pub fn unit_start(unit: EraseUnit, address: usize) -> usize
+    ensures { λ r. ⌜ r ≡ unitStart unit address ⌝ }
 {
-    match u {
-        EraseUnit::Sector => a / SECTOR * SECTOR,
-        EraseUnit::Block32 => a / BLOCK_32 * BLOCK_32,
-        EraseUnit::Block64 => a / BLOCK_64 * BLOCK_64,
+    match unit {
+        EraseUnit::Sector => address / SECTOR * SECTOR,
+        EraseUnit::Block32 => address / BLOCK_32 * BLOCK_32,
+        EraseUnit::Block64 => address / BLOCK_64 * BLOCK_64,
         EraseUnit::Chip => 0,
     }
 }
 
-pub fn unit_length(part: u32, u: EraseUnit) -> usize
-    ensures { λ r. ⌜ r ≡ unitLength (partOf part .size) u ⌝ }
+pub fn unit_length(part: u32, unit: EraseUnit) -> usize
+    ensures { λ r. ⌜ r ≡ unitLength (partOf part .size) unit ⌝ }
 {
-    match u {
+    match unit {
         EraseUnit::Sector => SECTOR,
         EraseUnit::Block32 => BLOCK_32,
         EraseUnit::Block64 => BLOCK_64,
@@ -64,17 +66,17 @@ fn reach_length(part: u32, w: Write) -> usize
 }
 
 // The first protected byte among the n from a on, from the two ends of the area.
-pub fn first_protected(part: u32, s: u8, a: usize, n: usize) -> Found
-    requires { ⌜ a + n < 4294967296 ⌝ }
-    ensures { λ r. ⌜ r ≡ firstProtected (partOf part) s a n ⌝ }
+pub fn first_protected(part: u32, setting: u8, start: usize, count: usize) -> Found
+    requires { ⌜ start + count < numberEnd ⌝ }
+    ensures { λ r. ⌜ r ≡ firstProtected (partOf part) setting start count ⌝ }
 {
-    let lo = parts::area_lo(part, s);
-    let hi = parts::area_hi(part, s);
-    let mut from = a;
-    if a < lo {
+    let lo = parts::area_lo(part, setting);
+    let hi = parts::area_hi(part, setting);
+    let mut from = start;
+    if start < lo {
         from = lo;
     }
-    let mut end = a + n;
+    let mut end = start + count;
     if hi < end {
         end = hi;
     }
@@ -87,7 +89,7 @@ pub fn first_protected(part: u32, s: u8, a: usize, n: usize) -> Found
 // ---- the tests, each by itself
 
 // The only maker of an ignored verdict.
-pub fn ignore(number: u8) -> Verdict
+fn ignore(number: u8) -> Verdict
     ensures { λ v. ⌜ v ≡ ignored number ⌝ }
 {
     Verdict::Ignored(Reason { number: number })
@@ -209,21 +211,21 @@ fn judge(part: u32, r: Regs, n: usize, x: u32, high: bool, op: u8, a: usize, c: 
 
 // ---- the verdict on the bytes of a transaction
 
-pub fn address_of(part: u32, b: &[u8]) -> usize
-    ensures { λ r. ⌜ (r ≡ addressOf (partOf part) (now (b .entry))) × (r < partOf part .size) ⌝ }
+pub fn address_of(part: u32, bytes: &[u8]) -> usize
+    ensures { λ r. ⌜ (r ≡ addressOf (partOf part) (now (bytes .entry))) × (r < partOf part .size) ⌝ }
 {
     let size = parts::size_of(part);
-    let b1 = lists::byte_at(b, 1) as usize;
-    let b2 = lists::byte_at(b, 2) as usize;
-    let b3 = lists::byte_at(b, 3) as usize;
+    let b1 = lists::byte_at(bytes, 1) as usize;
+    let b2 = lists::byte_at(bytes, 2) as usize;
+    let b3 = lists::byte_at(bytes, 3) as usize;
     (b1 * 65536 + b2 * 256 + b3) % size
 }
 
-pub fn verdict(part: u32, r: Regs, b: &[u8], x: u32, high: bool) -> Verdict
-    ensures { λ v. ⌜ v ≡ verdictOf (partOf part) r (now (b .entry)) x high ⌝ }
+pub fn verdict(part: u32, regs: Regs, bytes: &[u8], leftover: u32, high: bool) -> Verdict
+    ensures { λ v. ⌜ v ≡ verdictOf (partOf part) regs (now (bytes .entry)) leftover high ⌝ }
 {
-    let op = lists::byte_at(b, 0);
+    let op = lists::byte_at(bytes, 0);
     let c = parts::command_of(part, op);
-    let a = address_of(part, b);
-    judge(part, r, b.len(), x, high, op, a, c)
+    let a = address_of(part, bytes);
+    judge(part, regs, bytes.len(), leftover, high, op, a, c)
 }

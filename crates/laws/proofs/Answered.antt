@@ -22,9 +22,9 @@ use Rattle.rules.specs.Status.{regsOf, keptOf}
 use Rattle.rules.specs.Verdict.{verdictOf}
 use Rattle.rules.specs.Transaction.{outAt, regsAfter, arrayAfter, turnOf}
 use Rattle.rules.specs.Counts.{meterAfter}
-use Rattle.rules.specs.Refusals.{transactRefusal}
-use Rattle.rules.specs.Transact.{TransactSeen, transactTold, transactSeen, transactServed, transactRefused, transactBy, isHigh, transactOf}
-use Rattle.rules.specs.EventEntries.{eventTold, eventBy}
+use Rattle.rules.specs.Refusals.{transactRefusal, eventRefusal}
+use Rattle.rules.specs.Transact.{TransactSeen, transactTold, transactSeen, transactServed, transactRefused, isHigh, transactOf}
+use Rattle.rules.specs.EventEntries.{eventTold, eventOf}
 
 -- ---- transact
 
@@ -42,11 +42,11 @@ module _ (part : ℕ) (kept : Kept) (m : Meter) (l o b : List ℕ) (x wp : ℕ) 
 
   pub transact-served : (v : Verdict) → refusalIs .number ≡ 0 → v ≡ verdictOf (partOf part) (regsOf kept) b x (isHigh wp)
       → seenBy v ≡ transactOf part kept m l o b x wp
-  unfolding transactOf transactBy transactServed turnOf if_then_else_
+  unfolding transactOf transactServed turnOf if_then_else_
   transact-served v e f = ap seenBy f ∙ sym (rw e)
 
   pub transact-refused : (z : Refusal) → z ≡ refusalIs → (z .number ≡ 0 → ⊥) → transactSeen (transactTold kept m (Tr.Refused z)) l o ≡ transactOf part kept m l o b x wp
-  unfolding transactOf transactBy transactRefused if_then_else_
+  unfolding transactOf transactRefused if_then_else_
   transact-refused z e h = rw (← e, ne-eqb (z .number) 0 h)
 
 -- a command that drives the array leaves it: so its output may be made after it
@@ -68,11 +68,12 @@ out-after p r l b n (CarriedOut (Writes w)) = refl
 -- ---- finish and power cycle
 
 -- the registers taken apart as r, moved by f to s, and put together as back
-pub event-served : (z : Refusal) (kept back : Kept) (f : Regs → Regs) (r s : Regs) → z .number ≡ 0 → r ≡ regsOf kept → s ≡ f r → back ≡ keptOf s
-    → eventTold kept (Ev.Passed back) ≡ eventBy z kept (f (regsOf kept))
-unfolding eventBy if_then_else_
-event-served z kept back f r s e p q w = ap (λ (k : Kept). eventTold kept (Ev.Passed k)) (w ∙ ap keptOf (q ∙ ap f p)) ∙ sym (rw e)
+pub event-served : (part : ℕ) (kept back : Kept) (f : Regs → Regs) (r s : Regs) → eventRefusal part kept .number ≡ 0
+    → r ≡ regsOf kept → s ≡ f r → back ≡ keptOf s → eventTold kept (Ev.Passed back) ≡ eventOf part kept f
+unfolding eventOf if_then_else_
+event-served part kept back f r s e p q w = ap (λ (k : Kept). eventTold kept (Ev.Passed k)) (w ∙ ap keptOf (q ∙ ap f p)) ∙ sym (rw e)
 
-pub event-refused : (z : Refusal) (kept : Kept) (r : Regs) → (z .number ≡ 0 → ⊥) → eventTold kept (Ev.Refused z) ≡ eventBy z kept r
-unfolding eventBy if_then_else_
-event-refused z kept r h = rw (ne-eqb (z .number) 0 h)
+pub event-refused : (part : ℕ) (kept : Kept) (f : Regs → Regs) (z : Refusal) → z ≡ eventRefusal part kept → (z .number ≡ 0 → ⊥)
+    → eventTold kept (Ev.Refused z) ≡ eventOf part kept f
+unfolding eventOf if_then_else_
+event-refused part kept f z e h = rw (← e, ne-eqb (z .number) 0 h)

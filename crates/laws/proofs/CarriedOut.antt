@@ -22,7 +22,9 @@ use Rattle.rules.specs.Kinds.{ofWrite, ofKnown}
 use Rattle.rules.specs.Part.{Part, commandOf, shaped}
 use Rattle.rules.specs.Protection.{firstProtected}
 use Rattle.rules.specs.Writes.{reachStart, reachLength, lockedOut}
-use Rattle.rules.specs.Verdict.{ignored, addressOf, unheardAsleep, unheardBusy, protectionVerdict, writeVerdict, kindVerdict, judgeOf, verdictOf}
+use Rattle.rules.specs.Verdict.{ignored, addressOf, unheardAsleep, unheardBusy, verdictOf}
+use Rattle.laws.specs.Judged.{protectionVerdict, writeVerdict, kindVerdict, judgeOf}
+use Rattle.laws.proofs.Judged.{verdict-judged}
 use Rattle.rules.specs.Transaction.{turnBy, turnOf}
 
 -- ---- a kind writes nothing, or it writes
@@ -102,10 +104,10 @@ module _ (p : Part) (r : Regs) (high : Bool) (a : ℕ) where
       (h .0, λ w q. let s : v ≡ w = cc in subst (λ (u : Write). WritePassed p r high a u) s (h .1)))
 
 pub carried-passed : (p : Part) (r : Regs) (b : List ℕ) (x : ℕ) (high : Bool) (k : Kind) → verdictOf p r b x high ≡ CarriedOut k → Passed p r b x high k
-unfolding verdictOf judgeOf kindVerdict
+unfolding judgeOf kindVerdict
 carried-passed p r b x high k e =
     let op = getD b 0 0 in
-    let e1 = other (length b =? 0) 12 _ k e in
+    let e1 = other (length b =? 0) 12 _ k (sym (verdict-judged p r b x high) ∙ e) in
     let e2 = other (unheardAsleep p r op) 11 _ k (e1 .1) in
     let e3 = other (unheardBusy p r op) 10 _ k (e2 .1) in
     let e4 = is-known (commandOf p op) _ k (e3 .1) in
@@ -133,10 +135,11 @@ module _ (p : Part) (r : Regs) (high : Bool) (a : ℕ) where
       (λ w q. let h = q w refl in simp (h .enabled, h .unlocked, h .bare))
 
 pub passed-carried : (p : Part) (r : Regs) (b : List ℕ) (x : ℕ) (high : Bool) (k : Kind) → Passed p r b x high k → verdictOf p r b x high ≡ CarriedOut k
-unfolding verdictOf judgeOf kindVerdict ofKnown if_then_else_
+unfolding judgeOf kindVerdict ofKnown if_then_else_
 passed-carried p r b x high k h =
     let n = h .not-empty in
-    rw (ne-eqb (length b) 0 (λ e. omega arith), h .awake, h .idle, h .known, h .formed) (passed-kind p r high (addressOf p b) k (h .may-write))
+    verdict-judged p r b x high
+    ∙ rw (ne-eqb (length b) 0 (λ e. omega arith), h .awake, h .idle, h .known, h .formed) (passed-kind p r high (addressOf p b) k (h .may-write))
 
 -- ---- the turn that a verdict makes
 

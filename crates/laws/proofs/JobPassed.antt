@@ -16,10 +16,10 @@ use Rattle.rules.specs.declared.Decoded.{Decoded}
 use Rattle.rules.specs.declared.Decoded.the-variants.{Good, Bad}
 use Rattle.rules.specs.Part.{Part}
 use Rattle.rules.specs.Parts.{isPart, partOf}
-use Rattle.rules.specs.Protection.{firstProtected}
+use Rattle.rules.specs.Protection.{firstProtected, wasFound, someProtected}
 use Rattle.rules.specs.Refusals.{refusalAt}
 use Rattle.rules.specs.Job.{settingLimit, stepAt, stepCount, settingMeant}
-use Rattle.rules.specs.JobRefusals.{unfit, outside, beyond, wasFound, shielded, stepStart, stepReach, stepNumber, decodedNumber, settingAfter, stepsRefusal, jobRefusal}
+use Rattle.rules.specs.JobRefusals.{unfit, outside, beyond, shielded, stepStart, stepReach, stepNumber, decodedNumber, settingAfter, stepsRefusal, jobRefusal}
 use Rattle.laws.proofs.Accepted.{passed, neither}
 use Rattle.laws.proofs.Guards.{setting-small}
 
@@ -48,7 +48,7 @@ none-found (At x) e = let z : _≡_ {A = ℕ} 0 1 = cc in absurd (omega arith)
 none-found Nothing e = refl
 
 pub step-bare : (p : Part) (s : ℕ) (w : Step) → shielded p s w ≡ false → firstProtected p s (stepStart w) (stepReach p w) ≡ Nothing
-unfolding shielded
+unfolding shielded someProtected
 step-bare p s w e = none-found (firstProtected p s (stepStart w) (stepReach p w)) e
 
 decoded-passed : (p : Part) (s n : ℕ) (d : Decoded) → settingAfter 0 d ≤ settingLimit → decodedNumber p s n d ≡ 0 → StepPassed p s n d

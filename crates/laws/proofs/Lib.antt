@@ -4,6 +4,7 @@ pub mod CarriedOut
 pub mod Guards
 pub mod Inside
 pub mod JobPassed
+pub mod Judged
 pub mod NoWrite
 pub mod Protection
 pub mod RecordOk

@@ -31,10 +31,9 @@ pub record Sound (p : Part) : Type 0 where
   pub not-empty : 0 < blocks
   -- three address bytes reach all of it
   pub few : blocks ≤ 256
-  -- a protected area begins and ends with a page, and lies in the chip
+  -- a protected area begins and ends with a page
   pub lo-page : (s : ℕ) → p .lo s % page ≡ 0
   pub hi-page : (s : ℕ) → p .hi s % page ≡ 0
-  pub hi-end : (s : ℕ) → p .hi s ≤ p .size
   -- the code of each kind says that kind to the chip
   pub codes : (k : Kind) → commandOf p (codeOf k) ≡ Known k
   -- a code is a byte
@@ -126,7 +125,6 @@ part-sound part =
       few = lit≤ tt;
       lo-page = λ s. fm-lo s .whole;
       hi-page = λ s. fm-hi s .whole;
-      hi-end = λ s. fm-hi s .small;
       codes = code-back;
       byte-codes = λ op h. no-command op fmCommands (far fmCommands refl op h);
     }

@@ -17,7 +17,8 @@ use Rattle.rules.specs.declared.AtPlace.the-variants.{Transaction, Finish, Powe
 use Rattle.rules.specs.Listing.{listingLimit, digits3, hex2, space, lineFeed, recordText, recordLine, linesFrom, refusedLine, listingOf}
 use Rattle.rules.specs.Refusals.{refusal, accepted}
 use Rattle.rules.specs.Replay.{badRecord}
-use Rattle.rules.specs.Tape.{kindAt, sentAt, records, whole, goodRecord, firstBad, readAt, nextPlace, readOf}
+use Rattle.rules.specs.Tape.{kindAt, records, whole, goodRecord, firstBad}
+use Rattle.rules.specs.Reading.{sentAt, readAt, nextPlace, readOf}
 use Rattle.tape.specs.Record.{saidAt}
 use Rattle.tape.proofs.Said.{read-said, said-moves, next-told}
 use Rattle.lines.specs.Fault.{faultOf}

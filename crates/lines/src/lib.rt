@@ -1,5 +1,4 @@
 // The lines of the listing program, and what it refuses. The program only writes them out.
-use lists::Found;
 use rules::AtPlace;
 use rules::LISTING_LIMIT;
 use rules::Refusal;
@@ -160,20 +159,7 @@ pub fn fault_of(tape: &[u8]) -> Refusal
     ensures { λ z. ⌜ z ≡ faultOf (now (tape .entry)) ⌝ }
 {
     if is_long_or_cut(tape) {
-        return Refusal {
-            number: 30,
-            index: 0,
-        };
+        return refusals::refusal(30);
     }
-    let found = tape::first_bad(tape);
-    match found {
-        Found::At(i) => Refusal {
-            number: 31,
-            index: i,
-        },
-        Found::Nothing => Refusal {
-            number: 0,
-            index: 0,
-        },
-    }
+    refusals::bad_record(tape::first_bad(tape))
 }

@@ -12,7 +12,8 @@ use Rattle.rules.specs.declared.AtPlace.{AtPlace}
 use Rattle.rules.specs.declared.Refusal.{Refusal}
 use Rattle.rules.specs.Listing.{recordLine, linesFrom, refusedLine, listingOf}
 use Rattle.rules.specs.Refusals.{accepted}
-use Rattle.rules.specs.Tape.{records, readAt, readTold, readOf}
+use Rattle.rules.specs.Tape.{records}
+use Rattle.rules.specs.Reading.{readAt, readTold, readOf}
 use Rattle.tape.proofs.Said.{read-is}
 use Rattle.lines.specs.Fault.{faultOf}
 use Rattle.lines.specs.Line.{lineOf}

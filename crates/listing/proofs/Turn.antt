@@ -4,7 +4,8 @@ use mathlib.Core.Bool.{Bool, true, false, true≢false}
 use mathlib.Core.List.{List}
 use Prim.Native.Nat.{ℕ, suc, _-_, _<_, _^_}
 use native.Mathlib.Omega.{arith}
-use Rattle.rules.specs.Tape.{records, readOf}
+use Rattle.rules.specs.Tape.{records}
+use Rattle.rules.specs.Reading.{readOf}
 use Rattle.lines.proofs.Lines.{listable, next-there}
 use Rattle.listing.specs.declared.Handed.{Handed}
 use Rattle.listing.specs.Handed.{Come, AllHanded, Gone}

@@ -10,7 +10,7 @@ ghost use mathlib.Core.Bool.{not};
 ghost use Prim.Native.Nat.{_+_};
 ghost use lib.ListN.{length};
 ghost use Rattle.rules.specs.Listing.{listingOf};
-ghost use Rattle.rules.specs.Tape.{readTold, readOf};
+ghost use Rattle.rules.specs.Reading.{readTold, readOf};
 ghost use Rattle.listing.specs.Handed.{Next, Come, Gone, AllHanded};
 
 // What was handed to standard output: how many bytes, whether more may follow, and whether a write failed.

@@ -9,11 +9,11 @@ pub enum Found {
 }
 
 // The byte at a place, 0 past the end.
-pub fn byte_at(b: &[u8], i: usize) -> u8
-    ensures { λ r. ⌜ r ≡ getD (now (b .entry)) i 0 ⌝ }
+pub fn byte_at(bytes: &[u8], place: usize) -> u8
+    ensures { λ r. ⌜ r ≡ getD (now (bytes .entry)) place 0 ⌝ }
 {
-    if i < b.len() {
-        return b[i];
+    if place < bytes.len() {
+        return bytes[place];
     }
     0
 }

@@ -30,22 +30,31 @@ fn count(m: Meter, w: Write) -> Meter
 }
 
 // Of what was carried out the writes count, each in its own count; nothing else does.
-pub fn meter_step(m: Meter, k: Kind) -> Meter
-    requires { ⌜ Room m 1 ⌝ }
-    ensures { λ t. ⌜ t ≡ ofWrite k m (counted m) ⌝ }
+pub fn meter_step(meter: Meter, kind: Kind) -> Meter
+    requires { ⌜ Room meter 1 ⌝ }
+    ensures { λ t. ⌜ t ≡ ofWrite kind meter (counted meter) ⌝ }
 {
-    let Kind::Writes(w) = k else {
-        return m;
-    };
-    count(m, w)
+    match kind {
+        Kind::WriteEnable => meter,
+        Kind::WriteDisable => meter,
+        Kind::ReadStatusLow => meter,
+        Kind::ReadStatusHigh => meter,
+        Kind::Read => meter,
+        Kind::FastRead => meter,
+        Kind::Sleep => meter,
+        Kind::Wake => meter,
+        Kind::ReadMakerDevice => meter,
+        Kind::ReadJedec => meter,
+        Kind::Writes(w) => count(meter, w),
+    }
 }
 
-pub fn one_ignored(m: Meter) -> Meter
-    requires { ⌜ Room m 1 ⌝ }
-    ensures { λ t. ⌜ t ≡ ignoredCounted m ⌝ }
+pub fn one_ignored(meter: Meter) -> Meter
+    requires { ⌜ Room meter 1 ⌝ }
+    ensures { λ t. ⌜ t ≡ ignoredCounted meter ⌝ }
 {
-    let mut t = m;
-    t.ignored = m.ignored + 1;
+    let mut t = meter;
+    t.ignored = meter.ignored + 1;
     t
 }
 
@@ -59,18 +68,18 @@ fn fits_count(count: u32, n: usize) -> bool
     count as usize <= COUNT_LIMIT - n
 }
 
-// Refusal 7: no count plus n exceeds the limit.
-pub fn has_room(m: Meter, n: usize) -> bool
-    ensures { λ t. ⌜ t ≡ room m n ⌝ }
+// No count plus so many exceeds the limit; else refusal 7.
+pub fn has_room(meter: Meter, more: usize) -> bool
+    ensures { λ t. ⌜ t ≡ room meter more ⌝ }
 {
-    if !fits_count(m.programs, n) {
+    if !fits_count(meter.programs, more) {
         return false;
     }
-    if !fits_count(m.erases, n) {
+    if !fits_count(meter.erases, more) {
         return false;
     }
-    if !fits_count(m.register_writes, n) {
+    if !fits_count(meter.register_writes, more) {
         return false;
     }
-    fits_count(m.ignored, n)
+    fits_count(meter.ignored, more)
 }

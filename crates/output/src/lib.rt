@@ -104,13 +104,13 @@ fn drive(out: &mut [u8], part: u32, r: Regs, array: &[u8], b: &[u8], k: Kind)
 }
 
 // An ignored command drives only FF.
-pub fn show(out: &mut [u8], part: u32, r: Regs, array: &[u8], b: &[u8], v: Verdict)
+pub fn show(out: &mut [u8], part: u32, regs: Regs, array: &[u8], bytes: &[u8], verdict: Verdict)
     requires { ⌜ (length (now array) ≡ partOf part .size) × (length (now out) ≤ partOf part .size) ⌝ }
-    ensures { λ _. ⌜ now (out .exit) ≡ tabulate (length (now (out .entry))) (outAt (partOf part) r (now (array .entry)) (now (b .entry)) v) ⌝ }
+    ensures { λ _. ⌜ now (out .exit) ≡ tabulate (length (now (out .entry))) (outAt (partOf part) regs (now (array .entry)) (now (bytes .entry)) verdict) ⌝ }
 {
-    let Verdict::CarriedOut(kind) = v else {
+    let Verdict::CarriedOut(kind) = verdict else {
         cells::fill(out, 255);
         return;
     };
-    drive(out, part, r, array, b, kind);
+    drive(out, part, regs, array, bytes, kind);
 }

@@ -11,6 +11,7 @@ ghost use lib.ListN.{getD};
 ghost use Rattle.lists.specs.Choice.{_=?_, _≤?_};
 ghost use Rattle.rules.specs.Part.{commandIn, shapedIn};
 ghost use Rattle.rules.specs.Fm25q16.{fmSize, fmCommands, fmHeardAsleep, fmHeardBusy, fmArea, fmLo, fmHi, fmFirst, fmSecond, fmJedec, fmStatusWritten, fmGuardBytes};
+ghost use Rattle.rules.specs.Job.{settingLimit};
 
 pub const SIZE: usize = 2097152;
 
@@ -88,27 +89,27 @@ fn five_or_more(n: usize, x: u32) -> bool
     x == 0
 }
 
-pub fn is_shaped(op: u8, n: usize, x: u32) -> bool
-    ensures { λ r. ⌜ r ≡ shapedIn fmCommands op n x ⌝ }
+pub fn is_shaped(op: u8, count: usize, leftover: u32) -> bool
+    ensures { λ r. ⌜ r ≡ shapedIn fmCommands op count leftover ⌝ }
 {
     match op {
-        0x06 => exactly(1, n, x),
-        0x04 => exactly(1, n, x),
-        0x05 => or_more(1, n),
-        0x35 => or_more(1, n),
-        0x01 => two_or_three(n, x),
-        0x03 => or_more(4, n),
-        0x0B => or_more(5, n),
-        0x02 => five_or_more(n, x),
-        0x20 => exactly(4, n, x),
-        0x52 => exactly(4, n, x),
-        0xD8 => exactly(4, n, x),
-        0xC7 => exactly(1, n, x),
-        0x60 => exactly(1, n, x),
-        0xB9 => exactly(1, n, x),
-        0xAB => or_more(1, n),
-        0x90 => or_more(4, n),
-        0x9F => or_more(1, n),
+        0x06 => exactly(1, count, leftover),
+        0x04 => exactly(1, count, leftover),
+        0x05 => or_more(1, count),
+        0x35 => or_more(1, count),
+        0x01 => two_or_three(count, leftover),
+        0x03 => or_more(4, count),
+        0x0B => or_more(5, count),
+        0x02 => five_or_more(count, leftover),
+        0x20 => exactly(4, count, leftover),
+        0x52 => exactly(4, count, leftover),
+        0xD8 => exactly(4, count, leftover),
+        0xC7 => exactly(1, count, leftover),
+        0x60 => exactly(1, count, leftover),
+        0xB9 => exactly(1, count, leftover),
+        0xAB => or_more(1, count),
+        0x90 => or_more(4, count),
+        0x9F => or_more(1, count),
         _ => false,
     }
 }
@@ -139,28 +140,28 @@ fn area(s: u8) -> usize
     SEC1[bp]
 }
 
-pub fn lo(s: u8) -> usize
-    ensures { λ r. ⌜ r ≡ fmLo s ⌝ }
+pub fn lo(setting: u8) -> usize
+    ensures { λ r. ⌜ r ≡ fmLo setting ⌝ }
 {
-    if s / 8 % 2 == 0 {
-        return SIZE - area(s);
+    if setting / 8 % 2 == 0 {
+        return SIZE - area(setting);
     }
     0
 }
 
-pub fn hi(s: u8) -> usize
-    ensures { λ r. ⌜ r ≡ fmHi s ⌝ }
+pub fn hi(setting: u8) -> usize
+    ensures { λ r. ⌜ r ≡ fmHi setting ⌝ }
 {
-    if s / 8 % 2 == 0 {
+    if setting / 8 % 2 == 0 {
         return SIZE;
     }
-    area(s)
+    area(setting)
 }
 
-pub fn jedec(j: usize) -> u8
-    ensures { λ r. ⌜ r ≡ getD fmJedec j 255 ⌝ }
+pub fn jedec(place: usize) -> u8
+    ensures { λ r. ⌜ r ≡ getD fmJedec place 255 ⌝ }
 {
-    match j {
+    match place {
         0 => 0xF8,
         1 => 0x32,
         2 => 0x15,
@@ -182,19 +183,19 @@ fn second(r: Regs, b: u8) -> Regs
     regs::with_qe(regs::with_srp1(r, b % 2 == 1), b / 2 % 2 == 1)
 }
 
-pub fn status_written(r: Regs, b: &[u8]) -> Regs
-    ensures { λ t. ⌜ t ≡ fmStatusWritten r (now (b .entry)) ⌝ }
+pub fn status_written(regs: Regs, bytes: &[u8]) -> Regs
+    ensures { λ t. ⌜ t ≡ fmStatusWritten regs (now (bytes .entry)) ⌝ }
 {
-    let t = first(r, lists::byte_at(b, 1));
-    if b.len() == 3 {
-        return second(t, lists::byte_at(b, 2));
+    let t = first(regs, lists::byte_at(bytes, 1));
+    if bytes.len() == 3 {
+        return second(t, lists::byte_at(bytes, 2));
     }
     t
 }
 
-pub fn guard_bytes(g: u8) -> [u8; 2]
-    requires { ⌜ g ≤ 31 ⌝ }
-    ensures { λ r. ⌜ r ≡ fmGuardBytes g ⌝ }
+pub fn guard_bytes(setting: u8) -> [u8; 2]
+    requires { ⌜ setting ≤ settingLimit ⌝ }
+    ensures { λ r. ⌜ r ≡ fmGuardBytes setting ⌝ }
 {
-    [4 * g, 0]
+    [4 * setting, 0]
 }

@@ -1,4 +1,5 @@
-// What the code asks of a chip's description, by part number: a new chip is an arm in each of these, and no contract moves but that of `guard_bytes`, which gives two bytes.
+// What the code asks of a chip's description, by part number. A new chip is an arm in each of these; of the contracts only
+// that of `guard_bytes`, which gives two bytes, may have to move.
 use rules::Command;
 use rules::Regs;
 
@@ -9,8 +10,9 @@ ghost use Prim.Native.Nat.{_≤_};
 ghost use lib.ListN.{getD};
 ghost use Rattle.rules.specs.Part.{commandOf, shaped};
 ghost use Rattle.rules.specs.Parts.{isPart, partOf};
+ghost use Rattle.rules.specs.Job.{settingLimit};
 
-// Not refusal 1.
+// A part that there is; any other number is refusal 1.
 pub fn is_part(part: u32) -> bool
     ensures { λ r. ⌜ r ≡ isPart part ⌝ }
 {
@@ -36,10 +38,10 @@ pub fn command_of(part: u32, op: u8) -> Command
 }
 
 // n bytes and x leftover bits are right for the code.
-pub fn is_shaped(part: u32, op: u8, n: usize, x: u32) -> bool
-    ensures { λ r. ⌜ r ≡ shaped (partOf part) op n x ⌝ }
+pub fn is_shaped(part: u32, op: u8, count: usize, leftover: u32) -> bool
+    ensures { λ r. ⌜ r ≡ shaped (partOf part) op count leftover ⌝ }
 {
-    fm25q16::is_shaped(op, n, x)
+    fm25q16::is_shaped(op, count, leftover)
 }
 
 pub fn heard_asleep(part: u32, op: u8) -> bool
@@ -55,17 +57,17 @@ pub fn heard_busy(part: u32, op: u8) -> bool
 }
 
 // The protected bytes at a setting: from here ..
-pub fn area_lo(part: u32, s: u8) -> usize
-    ensures { λ r. ⌜ r ≡ partOf part .lo s ⌝ }
+pub fn area_lo(part: u32, setting: u8) -> usize
+    ensures { λ r. ⌜ r ≡ partOf part .lo setting ⌝ }
 {
-    fm25q16::lo(s)
+    fm25q16::lo(setting)
 }
 
 // .. up to here, and without it.
-pub fn area_hi(part: u32, s: u8) -> usize
-    ensures { λ r. ⌜ r ≡ partOf part .hi s ⌝ }
+pub fn area_hi(part: u32, setting: u8) -> usize
+    ensures { λ r. ⌜ r ≡ partOf part .hi setting ⌝ }
 {
-    fm25q16::hi(s)
+    fm25q16::hi(setting)
 }
 
 pub fn maker(part: u32) -> u8
@@ -81,23 +83,23 @@ pub fn device(part: u32) -> u8
 }
 
 // JEDEC byte j, FF past the last.
-pub fn jedec(part: u32, j: usize) -> u8
-    ensures { λ r. ⌜ r ≡ getD (partOf part .jedec) j 255 ⌝ }
+pub fn jedec(part: u32, place: usize) -> u8
+    ensures { λ r. ⌜ r ≡ getD (partOf part .jedec) place 255 ⌝ }
 {
-    fm25q16::jedec(j)
+    fm25q16::jedec(place)
 }
 
 // The registers after the bytes of a status write.
-pub fn status_written(part: u32, r: Regs, b: &[u8]) -> Regs
-    ensures { λ t. ⌜ t ≡ partOf part .statusWritten r (now (b .entry)) ⌝ }
+pub fn status_written(part: u32, regs: Regs, bytes: &[u8]) -> Regs
+    ensures { λ t. ⌜ t ≡ partOf part .statusWritten regs (now (bytes .entry)) ⌝ }
 {
-    fm25q16::status_written(r, b)
+    fm25q16::status_written(regs, bytes)
 }
 
 // The status bytes that a guard sends.
-pub fn guard_bytes(part: u32, g: u8) -> [u8; 2]
-    requires { ⌜ g ≤ 31 ⌝ }
-    ensures { λ r. ⌜ r ≡ partOf part .guardBytes g ⌝ }
+pub fn guard_bytes(part: u32, setting: u8) -> [u8; 2]
+    requires { ⌜ setting ≤ settingLimit ⌝ }
+    ensures { λ r. ⌜ r ≡ partOf part .guardBytes setting ⌝ }
 {
-    fm25q16::guard_bytes(g)
+    fm25q16::guard_bytes(setting)
 }

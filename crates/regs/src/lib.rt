@@ -8,144 +8,145 @@ ghost use Rattle.rules.specs.Events.{finished, unlatched, powerCycled};
 
 // ---- the word taken apart, and put together
 
-pub fn regs_of(k: Kept) -> Regs
-    ensures { λ r. ⌜ r ≡ regsOf k ⌝ }
+pub fn regs_of(kept: Kept) -> Regs
+    ensures { λ r. ⌜ r ≡ regsOf kept ⌝ }
 {
     Regs {
-        busy: k.status % 2 == 1,
-        wel: k.status / 2 % 2 == 1,
-        setting: (k.status / 4 % 32) as u8,
-        srp0: k.status / 128 % 2 == 1,
-        srp1: k.status / 256 % 2 == 1,
-        qe: k.status / 512 % 2 == 1,
-        awake: k.awake == 1,
+        busy: kept.status % 2 == 1,
+        wel: kept.status / 2 % 2 == 1,
+        setting: (kept.status / 4 % 32) as u8,
+        srp0: kept.status / 128 % 2 == 1,
+        srp1: kept.status / 256 % 2 == 1,
+        qe: kept.status / 512 % 2 == 1,
+        awake: kept.awake == 1,
     }
 }
 
-fn flag_of(b: bool) -> u32
-    ensures { λ r. ⌜ (r ≡ flag b) × (r ≤ 1) ⌝ }
+// 1 where it is on, else 0.
+pub fn flag_of(on: bool) -> u32
+    ensures { λ r. ⌜ (r ≡ flag on) × (r ≤ 1) ⌝ }
 {
-    if b { 1 } else { 0 }
+    if on { 1 } else { 0 }
 }
 
-pub fn status_of(r: Regs) -> u32
-    ensures { λ t. ⌜ (t ≡ statusOf r) × (t < 65536) ⌝ }
+fn status_of(regs: Regs) -> u32
+    ensures { λ t. ⌜ (t ≡ statusOf regs) × (t < 65536) ⌝ }
 {
-    flag_of(r.busy)
-        + flag_of(r.wel) * 2
-        + (r.setting as u32) * 4
-        + flag_of(r.srp0) * 128
-        + flag_of(r.srp1) * 256
-        + flag_of(r.qe) * 512
+    flag_of(regs.busy)
+        + flag_of(regs.wel) * 2
+        + (regs.setting as u32) * 4
+        + flag_of(regs.srp0) * 128
+        + flag_of(regs.srp1) * 256
+        + flag_of(regs.qe) * 512
 }
 
-pub fn kept_of(r: Regs) -> Kept
-    ensures { λ k. ⌜ k ≡ keptOf r ⌝ }
+pub fn kept_of(regs: Regs) -> Kept
+    ensures { λ k. ⌜ k ≡ keptOf regs ⌝ }
 {
     Kept {
-        status: status_of(r),
-        awake: flag_of(r.awake),
+        status: status_of(regs),
+        awake: flag_of(regs.awake),
     }
 }
 
-pub fn low_byte(r: Regs) -> u8
-    ensures { λ t. ⌜ t ≡ lowByte r ⌝ }
+pub fn low_byte(regs: Regs) -> u8
+    ensures { λ t. ⌜ t ≡ lowByte regs ⌝ }
 {
-    (status_of(r) % 256) as u8
+    (status_of(regs) % 256) as u8
 }
 
-pub fn high_byte(r: Regs) -> u8
-    ensures { λ t. ⌜ t ≡ highByte r ⌝ }
+pub fn high_byte(regs: Regs) -> u8
+    ensures { λ t. ⌜ t ≡ highByte regs ⌝ }
 {
-    (status_of(r) / 256) as u8
+    (status_of(regs) / 256) as u8
 }
 
-// Refusal 3, on the caller's own numbers.
-pub fn well_formed(end: u32, k: Kept) -> bool
-    ensures { λ t. ⌜ t ≡ wellFormed end k ⌝ }
+// Else refusal 3; judged on the caller's own numbers.
+pub fn well_formed(status_end: u32, kept: Kept) -> bool
+    ensures { λ t. ⌜ t ≡ wellFormed «status_end» kept ⌝ }
 {
-    if end <= k.status {
+    if status_end <= kept.status {
         return false;
     }
-    if 1 < k.awake {
+    if 1 < kept.awake {
         return false;
     }
-    if k.status % 2 != 1 {
+    if kept.status % 2 != 1 {
         return true;
     }
-    if k.status / 2 % 2 != 1 {
+    if kept.status / 2 % 2 != 1 {
         return false;
     }
-    k.awake == 1
+    kept.awake == 1
 }
 
 // ---- one register set
 
-pub fn with_busy(r: Regs, b: bool) -> Regs
-    ensures { λ t. ⌜ t ≡ withBusy r b ⌝ }
+pub fn with_busy(regs: Regs, on: bool) -> Regs
+    ensures { λ t. ⌜ t ≡ withBusy regs on ⌝ }
 {
-    let mut t = r;
-    t.busy = b;
+    let mut t = regs;
+    t.busy = on;
     t
 }
 
-pub fn with_wel(r: Regs, b: bool) -> Regs
-    ensures { λ t. ⌜ t ≡ withWel r b ⌝ }
+pub fn with_wel(regs: Regs, on: bool) -> Regs
+    ensures { λ t. ⌜ t ≡ withWel regs on ⌝ }
 {
-    let mut t = r;
-    t.wel = b;
+    let mut t = regs;
+    t.wel = on;
     t
 }
 
-pub fn with_setting(r: Regs, s: u8) -> Regs
-    ensures { λ t. ⌜ t ≡ withSetting r s ⌝ }
+pub fn with_setting(regs: Regs, setting: u8) -> Regs
+    ensures { λ t. ⌜ t ≡ withSetting regs setting ⌝ }
 {
-    let mut t = r;
-    t.setting = s;
+    let mut t = regs;
+    t.setting = setting;
     t
 }
 
-pub fn with_srp0(r: Regs, b: bool) -> Regs
-    ensures { λ t. ⌜ t ≡ withSrp0 r b ⌝ }
+pub fn with_srp0(regs: Regs, on: bool) -> Regs
+    ensures { λ t. ⌜ t ≡ withSrp0 regs on ⌝ }
 {
-    let mut t = r;
-    t.srp0 = b;
+    let mut t = regs;
+    t.srp0 = on;
     t
 }
 
-pub fn with_srp1(r: Regs, b: bool) -> Regs
-    ensures { λ t. ⌜ t ≡ withSrp1 r b ⌝ }
+pub fn with_srp1(regs: Regs, on: bool) -> Regs
+    ensures { λ t. ⌜ t ≡ withSrp1 regs on ⌝ }
 {
-    let mut t = r;
-    t.srp1 = b;
+    let mut t = regs;
+    t.srp1 = on;
     t
 }
 
-pub fn with_qe(r: Regs, b: bool) -> Regs
-    ensures { λ t. ⌜ t ≡ withQe r b ⌝ }
+pub fn with_qe(regs: Regs, on: bool) -> Regs
+    ensures { λ t. ⌜ t ≡ withQe regs on ⌝ }
 {
-    let mut t = r;
-    t.qe = b;
+    let mut t = regs;
+    t.qe = on;
     t
 }
 
-pub fn with_awake(r: Regs, b: bool) -> Regs
-    ensures { λ t. ⌜ t ≡ withAwake r b ⌝ }
+pub fn with_awake(regs: Regs, on: bool) -> Regs
+    ensures { λ t. ⌜ t ≡ withAwake regs on ⌝ }
 {
-    let mut t = r;
-    t.awake = b;
+    let mut t = regs;
+    t.awake = on;
     t
 }
 
 // ---- events
 
-pub fn finished(r: Regs) -> Regs
-    ensures { λ t. ⌜ t ≡ finished r ⌝ }
+pub fn finished(regs: Regs) -> Regs
+    ensures { λ t. ⌜ t ≡ finished regs ⌝ }
 {
-    if r.busy {
-        return with_wel(with_busy(r, false), false);
+    if regs.busy {
+        return with_wel(with_busy(regs, false), false);
     }
-    r
+    regs
 }
 
 fn unlatched(r: Regs) -> Regs
@@ -160,8 +161,8 @@ fn unlatched(r: Regs) -> Regs
     r
 }
 
-pub fn power_cycled(r: Regs) -> Regs
-    ensures { λ t. ⌜ t ≡ powerCycled r ⌝ }
+pub fn power_cycled(regs: Regs) -> Regs
+    ensures { λ t. ⌜ t ≡ powerCycled regs ⌝ }
 {
-    with_awake(with_busy(with_wel(unlatched(r), false), false), true)
+    with_awake(with_busy(with_wel(unlatched(regs), false), false), true)
 }

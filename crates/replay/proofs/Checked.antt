@@ -19,7 +19,7 @@ use Rattle.rules.specs.Status.{regsOf, keptOf}
 use Rattle.rules.specs.Counts.{room}
 use Rattle.rules.specs.Tape.{whole, goodRecord, firstBad, records, recsOf}
 use Rattle.rules.specs.Play.{State, state, play}
-use Rattle.rules.specs.Replay.{badRecord, recordsRefusal, replayRefusal, replayTold, replaySeen, replayServed, replayRefused, replayBy, replayFirstOf}
+use Rattle.rules.specs.Replay.{badRecord, recordsRefusal, replayRefusal, replayTold, replaySeen, replayServed, replayRefused, replayFirstOf}
 use Rattle.laws.specs.Room.{Room}
 use Rattle.laws.proofs.Accepted.{passed, neither, opened, room-is}
 use Rattle.replay.specs.Playable.{Playable}
@@ -56,10 +56,10 @@ fewer part al m t k h =
 module _ (part : ℕ) (kept : Kept) (m : Meter) (l t : List ℕ) (k : ℕ) where
   pub replay-served : (s : State) → replayRefusal part (length l) kept m t .number ≡ 0 → s ≡ play (partOf part) (take k (recsOf t)) (state (regsOf kept) l m)
       → replaySeen (replayTold kept m (Ended (record { regs = keptOf (s .regs); meter = s .meter }))) (s .array) ≡ replayFirstOf part kept m l t k
-  unfolding replayFirstOf replayBy replayServed if_then_else_
+  unfolding replayFirstOf replayServed if_then_else_
   replay-served s e f =
       ap (λ (w : State). replaySeen (replayTold kept m (Ended (record { regs = keptOf (w .regs); meter = w .meter }))) (w .array)) f ∙ sym (rw e)
 
   pub replay-refused : (z : Refusal) → z ≡ replayRefusal part (length l) kept m t → (z .number ≡ 0 → ⊥) → replaySeen (replayTold kept m (Refused z)) l ≡ replayFirstOf part kept m l t k
-  unfolding replayFirstOf replayBy replayRefused if_then_else_
+  unfolding replayFirstOf replayRefused if_then_else_
   replay-refused z e h = rw (← e, ne-eqb (z .number) 0 h)

@@ -23,7 +23,8 @@ use Rattle.rules.specs.Part.{Part}
 use Rattle.rules.specs.Verdict.{verdictOf}
 use Rattle.rules.specs.Transaction.{regsAfter, arrayAfter, turnOf}
 use Rattle.rules.specs.Counts.{counted, meterAfter}
-use Rattle.rules.specs.Tape.{Rec, transaction, finish, powerCycle, kindAt, sentAt, recAt, recsFrom}
+use Rattle.rules.specs.Tape.{Rec, transaction, finish, powerCycle, kindAt, recAt, recsFrom}
+use Rattle.rules.specs.Reading.{sentAt}
 use Rattle.rules.specs.Play.{State, state, playRec, play}
 use Rattle.laws.specs.Room.{Room}
 use Rattle.tape.specs.Record.{recOf, saidAt}

@@ -1,5 +1,4 @@
 // A tape played on a chip: every check first, then record by record; outputs are dropped.
-use lists::Found;
 use rules::AtPlace;
 use rules::Kept;
 use rules::Meter;
@@ -12,23 +11,22 @@ ghost use mathlib.Core.Path.{_≡_};
 ghost use Prim.Native.Nat.{_+_, _≤_, _<_};
 ghost use lib.ListN.{length, take, drop};
 ghost use Rattle.rules.specs.Parts.{partOf};
-ghost use Rattle.rules.specs.Tape.{transaction, recAt, recsFrom};
+ghost use Rattle.rules.specs.Tape.{transaction, sentLimit, recAt, recsFrom};
 ghost use Rattle.rules.specs.Events.{finished, powerCycled};
 ghost use Rattle.rules.specs.Play.{state, playRec, play};
-ghost use Rattle.rules.specs.Refusals.{refusal};
-ghost use Rattle.rules.specs.Replay.{badRecord, recordsRefusal, replayRefusal, replayTold, replaySeen, replayFirstOf, replayOf};
+ghost use Rattle.rules.specs.Replay.{recordsRefusal, replayRefusal, replayTold, replaySeen, replayFirstOf, replayOf};
 ghost use Rattle.laws.specs.Room.{Room};
 ghost use Rattle.replay.specs.Playable.{Playable};
 
 // What a record changes besides the array.
-pub struct Playing {
-    pub regs: Regs,
-    pub meter: Meter,
+struct Playing {
+    regs: Regs,
+    meter: Meter,
 }
 
 // The transaction whose bytes lie in the tape after the record's four head bytes.
 fn play_sent(part: u32, s: Playing, array: &mut [u8], tape: &[u8], sent: Sent) -> Playing
-    requires { ⌜ (length (now array) ≡ partOf part .size) × (sent .length ≤ 260) × (sent .start + sent .length ≤ length (now tape)) × Room (s .meter) 1 ⌝ }
+    requires { ⌜ (length (now array) ≡ partOf part .size) × (sent .length ≤ sentLimit) × (sent .start + sent .length ≤ length (now tape)) × Room (s .meter) 1 ⌝ }
     ensures { λ t. ⌜ state (t .regs) (now (array .exit)) (t .meter) ≡ playRec (partOf part) (transaction (take (sent .length) (drop (sent .start) (now (tape .entry)))) (sent .leftover) (sent .high)) (state (s .regs) (now (array .entry)) (s .meter)) ⌝ }
 {
     let start = sent.start;
@@ -63,8 +61,8 @@ fn play_at(part: u32, s: Playing, array: &mut [u8], tape: &[u8], p: usize) -> Pl
     match found {
         AtPlace::Transaction(sent) => play_sent(part, s, array, tape, sent),
         AtPlace::Finish => ended(r, m),
-        // A record that is there and good is no end and no fault.
         AtPlace::PowerCycle => cycled(r, m),
+        // A record that is there and good is no end and no fault.
         AtPlace::End => cycled(r, m),
         AtPlace::Fault(_) => cycled(r, m),
     }
@@ -89,13 +87,13 @@ fn cycled(r: Regs, m: Meter) -> Playing
 }
 
 // The first n records.
-pub fn play_first(part: u32, start: Playing, array: &mut [u8], tape: &[u8], n: usize) -> Playing
-    requires { ⌜ (length (now array) ≡ partOf part .size) × Playable (now tape) n × Room (start .meter) n ⌝ }
-    ensures { λ t. ⌜ state (t .regs) (now (array .exit)) (t .meter) ≡ play (partOf part) (recsFrom (now (tape .entry)) 0 n) (state (start .regs) (now (array .entry)) (start .meter)) ⌝ }
+fn play_first(part: u32, start: Playing, array: &mut [u8], tape: &[u8], count: usize) -> Playing
+    requires { ⌜ (length (now array) ≡ partOf part .size) × Playable (now tape) count × Room (start .meter) count ⌝ }
+    ensures { λ t. ⌜ state (t .regs) (now (array .exit)) (t .meter) ≡ play (partOf part) (recsFrom (now (tape .entry)) 0 count) (state (start .regs) (now (array .entry)) (start .meter)) ⌝ }
 {
     let mut s = start;
     let mut p = 0;
-    while p < n {
+    while p < count {
         s = play_at(part, s, array, tape, p);
         p += 1;
     }
@@ -104,41 +102,19 @@ pub fn play_first(part: u32, start: Playing, array: &mut [u8], tape: &[u8], n: u
 
 // ---- the checks, all before the first record
 
-// 31 with the index of the first bad record.
-fn bad_record(found: Found) -> Refusal
-    ensures { λ z. ⌜ z ≡ badRecord found ⌝ }
-{
-    match found {
-        Found::At(i) => Refusal {
-            number: 31,
-            index: i,
-        },
-        Found::Nothing => refuse(0),
-    }
-}
-
-fn refuse(number: u8) -> Refusal
-    ensures { λ z. ⌜ z ≡ refusal number ⌝ }
-{
-    Refusal {
-        number: number,
-        index: 0,
-    }
-}
-
 // 31, then 7.
 fn refuse_records(m: Meter, tape: &[u8]) -> Refusal
     ensures { λ z. ⌜ z ≡ recordsRefusal m (now (tape .entry)) ⌝ }
 {
-    let z = bad_record(tape::first_bad(tape));
+    let z = refusals::bad_record(tape::first_bad(tape));
     let number = z.number;
     if number != 0 {
         return z;
     }
     if !meter::has_room(m, tape::record_count(tape)) {
-        return refuse(7);
+        return refusals::refusal(7);
     }
-    refuse(0)
+    refusals::refusal(0)
 }
 
 // 1, 2, 3, 30, 31, 7: array of al bytes.
@@ -146,16 +122,16 @@ fn refusal_of(part: u32, al: usize, kept: Kept, m: Meter, tape: &[u8]) -> Refusa
     ensures { λ z. ⌜ z ≡ replayRefusal part al kept m (now (tape .entry)) ⌝ }
 {
     if !parts::is_part(part) {
-        return refuse(1);
+        return refusals::refusal(1);
     }
     if al != parts::size_of(part) {
-        return refuse(2);
+        return refusals::refusal(2);
     }
     if !regs::well_formed(parts::status_end(part), kept) {
-        return refuse(3);
+        return refusals::refusal(3);
     }
     if !tape::is_whole(tape) {
-        return refuse(30);
+        return refusals::refusal(30);
     }
     refuse_records(m, tape)
 }
@@ -166,14 +142,14 @@ fn refusal_of(part: u32, al: usize, kept: Kept, m: Meter, tape: &[u8]) -> Refusa
 pub fn replay_first(
     part: u32,
     kept: Kept,
-    m: Meter,
+    meter: Meter,
     array: &mut [u8],
     tape: &[u8],
     k: usize,
 ) -> Replayed
-    ensures { λ t. ⌜ replaySeen (replayTold kept m t) (now (array .exit)) ≡ replayFirstOf part kept m (now (array .entry)) (now (tape .entry)) k ⌝ }
+    ensures { λ t. ⌜ replaySeen (replayTold kept meter t) (now (array .exit)) ≡ replayFirstOf part kept meter (now (array .entry)) (now (tape .entry)) k ⌝ }
 {
-    let z = refusal_of(part, array.len(), kept, m, tape);
+    let z = refusal_of(part, array.len(), kept, meter, tape);
     let number = z.number;
     if number != 0 {
         return Replayed::Refused(z);
@@ -181,7 +157,7 @@ pub fn replay_first(
     let n = lists::lesser(k, tape::record_count(tape));
     let start = Playing {
         regs: regs::regs_of(kept),
-        meter: m,
+        meter: meter,
     };
     let s = play_first(part, start, array, tape, n);
     let next = s.regs;
@@ -193,8 +169,8 @@ pub fn replay_first(
 }
 
 // The whole tape.
-pub fn replay(part: u32, kept: Kept, m: Meter, array: &mut [u8], tape: &[u8]) -> Replayed
-    ensures { λ t. ⌜ replaySeen (replayTold kept m t) (now (array .exit)) ≡ replayOf part kept m (now (array .entry)) (now (tape .entry)) ⌝ }
+pub fn replay(part: u32, kept: Kept, meter: Meter, array: &mut [u8], tape: &[u8]) -> Replayed
+    ensures { λ t. ⌜ replaySeen (replayTold kept meter t) (now (array .exit)) ≡ replayOf part kept meter (now (array .entry)) (now (tape .entry)) ⌝ }
 {
-    replay_first(part, kept, m, array, tape, tape::record_count(tape))
+    replay_first(part, kept, meter, array, tape, tape::record_count(tape))
 }

@@ -34,7 +34,7 @@ use Rattle.rules.specs.Verdict.{VerdictTold, ignored, verdictTold}
 use Rattle.rules.specs.Transact.{AnswerTold, transactTold}
 use Rattle.rules.specs.EventEntries.{EventTold, eventTold}
 use Rattle.rules.specs.Replay.{replayTold}
-use Rattle.rules.specs.Tape.{ReadTold, readTold}
+use Rattle.rules.specs.Reading.{ReadTold, readTold}
 use Rattle.rules.specs.Translate.{TapeTold, translateTold, BillTold, quoteTold}
 
 -- what can be had back from what is told of it is told apart

@@ -1,2 +1,3 @@
 pub mod Bench
 pub mod Apart
+pub mod Pieces

@@ -69,12 +69,16 @@ ff4 = 0xFF ∷ 0xFF ∷ ff2
 abbrev pub ff5 : List ℕ
 ff5 = 0xFF ∷ ff4
 
+-- byte 000 of an array that is FF there, looked at in every row
+abbrev pub byte0 : List Fact
+byte0 = holds 0x000 0xFF ∷ []
+
 unfoldable pub readings : List Reading
 readings =
     -- B1 `06`, WEL 0: carried out, WEL 1, output FF
-    reading (awakeAt 0x0000) [] (0x06 ∷ []) (carried 0x06 ff1 (awakeAt 0x0002) (counts 0 0 0 0) [])
+    reading (awakeAt 0x0000) [] (0x06 ∷ []) (carried 0x06 ff1 (awakeAt 0x0002) (counts 0 0 0 0) byte0)
     -- B2 `06 00`: 13
-    ∷ reading (awakeAt 0x0000) [] (0x06 ∷ 0x00 ∷ []) (ignoredAs 13 ff2 (awakeAt 0x0000) [])
+    ∷ reading (awakeAt 0x0000) [] (0x06 ∷ 0x00 ∷ []) (ignoredAs 13 ff2 (awakeAt 0x0000) byte0)
     -- B3 WEL 1, array FF, `02 00 00 FE 11 22 33 44`: FE=11, FF=22, 000=33, 001=44, 100 stays FF
     ∷ reading (awakeAt 0x0002) [] (0x02 ∷ 0x00 ∷ 0x00 ∷ 0xFE ∷ 0x11 ∷ 0x22 ∷ 0x33 ∷ 0x44 ∷ [])
     (carried 0x02 (0xFF ∷ 0xFF ∷ 0xFF ∷ ff5) (awakeAt 0x0003) (counts 1 0 0 0)
@@ -83,22 +87,22 @@ readings =
     ∷ reading (awakeAt 0x0002) (holds 0x000 0xF0 ∷ []) (0x02 ∷ 0x00 ∷ 0x00 ∷ 0x00 ∷ 0x3C ∷ [])
     (carried 0x02 ff5 (awakeAt 0x0003) (counts 1 0 0 0) (holds 0x000 0x30 ∷ []))
     -- B5 `02 00 00 00`, WEL 1: 13
-    ∷ reading (awakeAt 0x0002) [] (0x02 ∷ 0x00 ∷ 0x00 ∷ 0x00 ∷ []) (ignoredAs 13 ff4 (awakeAt 0x0002) (holds 0x000 0xFF ∷ []))
+    ∷ reading (awakeAt 0x0002) [] (0x02 ∷ 0x00 ∷ 0x00 ∷ 0x00 ∷ []) (ignoredAs 13 ff4 (awakeAt 0x0002) byte0)
     -- B6 setting 1, WEL 1: one byte at 1F0000 is 16 ..
-    ∷ reading (awakeAt 0x0006) [] (0x02 ∷ 0x1F ∷ 0x00 ∷ 0x00 ∷ 0x00 ∷ []) (ignoredAs 16 ff5 (awakeAt 0x0006) [])
+    ∷ reading (awakeAt 0x0006) [] (0x02 ∷ 0x1F ∷ 0x00 ∷ 0x00 ∷ 0x00 ∷ []) (ignoredAs 16 ff5 (awakeAt 0x0006) byte0)
     -- .. at 1EFFFF is carried out
-    ∷ reading (awakeAt 0x0006) [] (0x02 ∷ 0x1E ∷ 0xFF ∷ 0xFF ∷ 0x00 ∷ []) (carried 0x02 ff5 (awakeAt 0x0007) (counts 1 0 0 0) [])
+    ∷ reading (awakeAt 0x0006) [] (0x02 ∷ 0x1E ∷ 0xFF ∷ 0xFF ∷ 0x00 ∷ []) (carried 0x02 ff5 (awakeAt 0x0007) (counts 1 0 0 0) byte0)
     -- B7 setting 17, WEL 1: 52 at 1F8000 is 16 ..
-    ∷ reading (awakeAt 0x0046) [] (0x52 ∷ 0x1F ∷ 0x80 ∷ 0x00 ∷ []) (ignoredAs 16 ff4 (awakeAt 0x0046) [])
+    ∷ reading (awakeAt 0x0046) [] (0x52 ∷ 0x1F ∷ 0x80 ∷ 0x00 ∷ []) (ignoredAs 16 ff4 (awakeAt 0x0046) byte0)
     -- .. 20 at 1FE000 is carried out
-    ∷ reading (awakeAt 0x0046) [] (0x20 ∷ 0x1F ∷ 0xE0 ∷ 0x00 ∷ []) (carried 0x20 ff4 (awakeAt 0x0047) (counts 0 1 0 0) [])
+    ∷ reading (awakeAt 0x0046) [] (0x20 ∷ 0x1F ∷ 0xE0 ∷ 0x00 ∷ []) (carried 0x20 ff4 (awakeAt 0x0047) (counts 0 1 0 0) byte0)
     -- B8 status 0003 hex, `05 00`: FF 03
-    ∷ reading (awakeAt 0x0003) [] (0x05 ∷ 0x00 ∷ []) (carried 0x05 (0xFF ∷ 0x03 ∷ []) (awakeAt 0x0003) (counts 0 0 0 0) [])
+    ∷ reading (awakeAt 0x0003) [] (0x05 ∷ 0x00 ∷ []) (carried 0x05 (0xFF ∷ 0x03 ∷ []) (awakeAt 0x0003) (counts 0 0 0 0) byte0)
     -- B9 asleep, `05 00`: 11, FF FF
-    ∷ reading (asleepAt 0x0000) [] (0x05 ∷ 0x00 ∷ []) (ignoredAs 11 ff2 (asleepAt 0x0000) [])
+    ∷ reading (asleepAt 0x0000) [] (0x05 ∷ 0x00 ∷ []) (ignoredAs 11 ff2 (asleepAt 0x0000) byte0)
     -- B10 status 0202 hex, `01 04`: 0207, after finish 0204
     ∷ reading (awakeAt 0x0202) [] (0x01 ∷ 0x04 ∷ [])
-    record { served = true; number = 0; code = 0x01; out = ff2; regs = awakeAt 0x0207; meter = counts 0 0 1 0; array = []; finishes = 0x0204 ∷ [] }
+    record { served = true; number = 0; code = 0x01; out = ff2; regs = awakeAt 0x0207; meter = counts 0 0 1 0; array = byte0; finishes = 0x0204 ∷ [] }
     ∷ []
 
 -- ---- what the rules make of a row

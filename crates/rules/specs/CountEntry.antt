@@ -13,18 +13,18 @@ use Rattle.rules.specs.Counts.{ignoredCounted, meterAfter, room}
 
 -- the meter after a transaction of first byte op that answered with a number: 0 is carried out, 10 to 16 ignored, and any
 -- other number counts nothing
-unfoldable pub meterByAnswer : Part → Meter → ℕ → ℕ → Meter
-meterByAnswer p m number op =
-    if number =? 0 then ofKnown (commandOf p op) m (λ k. meterAfter m (CarriedOut k)) else
-    if (10 ≤? number) && (number ≤? 16) then ignoredCounted m else
-    m
+unfoldable pub meterByAnswer : (p : Part) (meter : Meter) (number op : ℕ) → Meter
+meterByAnswer p meter number op =
+    if number =? 0 then ofKnown (commandOf p op) meter (λ k. meterAfter meter (CarriedOut k)) else
+    if (10 ≤? number) && (number ≤? 16) then ignoredCounted meter else
+    meter
 
-abbrev pub metered : ℕ → Meter → Metered
-metered n m = record { number = n; meter = m }
+abbrev pub metered : (number : ℕ) (meter : Meter) → Metered
+metered number meter = record { number = number; meter = meter }
 
 -- refused with 1 or 7, and then the meter stays
-unfoldable pub countOf : ℕ → Meter → ℕ → ℕ → Metered
-countOf part m number op =
-    if not (isPart part) then metered 1 m else
-    if not (room m 1) then metered 7 m else
-    metered 0 (meterByAnswer (partOf part) m number op)
+unfoldable pub countOf : (part : ℕ) (meter : Meter) (number op : ℕ) → Metered
+countOf part meter number op =
+    if not (isPart part) then metered 1 meter else
+    if not (room meter 1) then metered 7 meter else
+    metered 0 (meterByAnswer (partOf part) meter number op)

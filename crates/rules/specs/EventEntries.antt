@@ -4,7 +4,6 @@ use mathlib.Core.Bool.{Bool, true, false}
 use Rattle.lists.specs.Choice.{if_then_else_}
 use Rattle.rules.specs.declared.Kept.{Kept}
 use Rattle.rules.specs.declared.Regs.{Regs}
-use Rattle.rules.specs.declared.Refusal.{Refusal}
 use Rattle.rules.specs.declared.Event.{Event}
 use Rattle.rules.specs.declared.Event.the-variants.{Passed, Refused}
 use Rattle.rules.specs.Status.{regsOf, keptOf}
@@ -22,12 +21,14 @@ abbrev pub eventTold : Kept → Event → EventTold
 eventTold kept (Passed k) = record { served = true; number = 0; index = 0; regs = k }
 eventTold kept (Refused z) = record { served = false; number = z .number; index = z .index; regs = kept }
 
--- what an event makes of the registers, unless it is refused with z
-unfoldable pub eventBy : Refusal → Kept → Regs → EventTold
-eventBy z kept r = if accepted z then eventTold kept (Passed (keptOf r)) else eventTold kept (Refused z)
+-- an event, by what it makes of the registers
+unfoldable pub eventOf : (part : ℕ) (kept : Kept) (makes : Regs → Regs) → EventTold
+eventOf part kept makes =
+    let z = eventRefusal part kept in
+    if accepted z then eventTold kept (Passed (keptOf (makes (regsOf kept)))) else eventTold kept (Refused z)
 
-unfoldable pub finishOf : ℕ → Kept → EventTold
-finishOf part kept = eventBy (eventRefusal part kept) kept (finished (regsOf kept))
+unfoldable pub finishOf : (part : ℕ) (kept : Kept) → EventTold
+finishOf part kept = eventOf part kept finished
 
-unfoldable pub powerCycleOf : ℕ → Kept → EventTold
-powerCycleOf part kept = eventBy (eventRefusal part kept) kept (powerCycled (regsOf kept))
+unfoldable pub powerCycleOf : (part : ℕ) (kept : Kept) → EventTold
+powerCycleOf part kept = eventOf part kept powerCycled

@@ -8,11 +8,24 @@ use Rattle.rules.specs.declared.EraseUnit.the-variants.{Sector, Block32,
 use Rattle.rules.specs.declared.Write.the-variants.{Program, Erase, WriteStatus}
 use Rattle.rules.specs.declared.Kind.the-variants.{WriteEnable, WriteDisable, ReadStatusLow, ReadStatusHigh, Read, FastRead, Sleep, Wake, ReadMakerDevice, ReadJedec, Writes}
 use Rattle.rules.specs.declared.Regs.{Regs}
-use Rattle.rules.specs.Status.{bit0, bitAt, settingOf, withSetting, withSrp0, withSrp1, withQe}
+use Rattle.rules.specs.Status.{bit0, bitAt, srp0Bit, settingOf, withSetting, withSrp0, withSrp1, withQe}
 use Rattle.rules.specs.Part.{Part, Row, row, exactly, either, orMore, noBits, anyBits}
 
 abbrev pub fmSize : ℕ
 fmSize = 2097152
+
+-- 01, "The chip we bill for": "8,192 pages of 256, 512 sectors of 4,096, 64 blocks of 32,768, 32 blocks of 65,536"
+abbrev pub fmPages : ℕ
+fmPages = 8192
+
+abbrev pub fmSectors : ℕ
+fmSectors = 512
+
+abbrev pub fmBlocks32 : ℕ
+fmBlocks32 = 64
+
+abbrev pub fmBlocks64 : ℕ
+fmBlocks64 = 32
 
 -- 01, "What a transaction does": command, bytes n; and the sentence on leftover bits
 unfoldable pub fmCommands : List Row
@@ -78,7 +91,7 @@ fmHi s = if fmTb s =? 0 then fmSize else fmArea s
 
 -- 01, "Write status": "the first byte's bits 7 to 2 go to S7 to S2"
 unfoldable pub fmFirst : Regs → ℕ → Regs
-fmFirst r b = withSrp0 (withSetting r (settingOf b)) (bitAt 128 b)
+fmFirst r b = withSrp0 (withSetting r (settingOf b)) (bitAt srp0Bit b)
 
 -- .. "a second byte's bits 1 and 0 go to S9 and S8"
 unfoldable pub fmSecond : Regs → ℕ → Regs

@@ -1,11 +1,9 @@
 -- When a job is refused. Document 01, refusals 20 to 25, "each step in order".
 use Prim.Native.Nat.{ℕ, zero, suc, _+_, _%_}
-use mathlib.Core.Bool.{Bool, true, false, not, _||_}
+use mathlib.Core.Bool.{Bool, false, not, _||_}
 use mathlib.Core.List.{List}
 use lib.ListN.{length}
 use Rattle.lists.specs.Choice.{if_then_else_, _=?_, _<?_, _≤?_}
-use Rattle.lists.specs.declared.Found.{Found}
-use Rattle.lists.specs.declared.Found.the-variants.{At, Nothing}
 use Rattle.rules.specs.declared.EraseUnit.{EraseUnit}
 use Rattle.rules.specs.declared.EraseUnit.the-variants.{Sector, Block32, Block64, Chip}
 use Rattle.rules.specs.declared.Step.{Step}
@@ -16,7 +14,7 @@ use Rattle.rules.specs.declared.Refusal.{Refusal}
 use Rattle.rules.specs.Part.{Part}
 use Rattle.rules.specs.Parts.{isPart, partOf}
 use Rattle.rules.specs.Units.{unitStart, unitLength}
-use Rattle.rules.specs.Protection.{firstProtected}
+use Rattle.rules.specs.Protection.{someProtected}
 use Rattle.rules.specs.Refusals.{refusal, refusalAt, _orElse_}
 use Rattle.rules.specs.Job.{stepLength, settingLimit, stepAt, stepCount, settingMeant}
 
@@ -66,16 +64,12 @@ stepReach p (EraseAt u a) = unitLength (p .size) u
 stepReach p (Lay s) = s .length
 stepReach p (Guard g) = 0
 
-abbrev pub wasFound : Found → Bool
-wasFound (At x) = true
-wasFound Nothing = false
-
 -- 25: "a byte of the unit or span protected at that step", at setting s
 unfoldable pub shielded : Part → ℕ → Step → Bool
-shielded p s w = wasFound (firstProtected p s (stepStart w) (stepReach p w))
+shielded p s w = someProtected p s (stepStart w) (stepReach p w)
 
 -- 23 to 25 for one step, 0 for none
-unfoldable pub stepNumber : Part → ℕ → ℕ → Step → ℕ
+unfoldable pub stepNumber : (p : Part) (s payloadLength : ℕ) → Step → ℕ
 stepNumber p s payloadLength w =
     if outside p w then 23 else
     if beyond payloadLength w then 24 else
@@ -92,16 +86,16 @@ settingAfter s (Good w) = settingMeant s w
 settingAfter s Bad = s
 
 -- n steps from step i on, at setting s
-unfoldable pub stepsRefusal : Part → ℕ → ℕ → List ℕ → ℕ → ℕ → Refusal
+unfoldable pub stepsRefusal : (p : Part) (s payloadLength : ℕ) (job : List ℕ) (i n : ℕ) → Refusal
 stepsRefusal p s payloadLength job i zero = refusal 0
 stepsRefusal p s payloadLength job i (suc n) =
     refusalAt (decodedNumber p s payloadLength (stepAt job i)) i orElse
     stepsRefusal p (settingAfter s (stepAt job i)) payloadLength job (suc i) n
 
 -- "checks 1, 20, 21, then each step in order for 22 to 25"
-unfoldable pub jobRefusal : ℕ → ℕ → List ℕ → ℕ → Refusal
-jobRefusal part s job payloadLength =
+unfoldable pub jobRefusal : (part setting : ℕ) (job : List ℕ) (payloadLength : ℕ) → Refusal
+jobRefusal part setting job payloadLength =
     if not (isPart part) then refusal 1 else
     if unfit job payloadLength then refusal 20 else
-    if settingLimit <? s then refusal 21 else
-    stepsRefusal (partOf part) s payloadLength job 0 (stepCount job)
+    if settingLimit <? setting then refusal 21 else
+    stepsRefusal (partOf part) setting payloadLength job 0 (stepCount job)

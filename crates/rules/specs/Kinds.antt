@@ -45,3 +45,7 @@ ofWrite (Writes w) d f = f w
 unfoldable pub ofKnown {ℓ} : {A : Type ℓ} → Command → A → (Kind → A) → A
 ofKnown Unknown d f = d
 ofKnown (Known k) d f = f k
+
+-- f of what a command writes, and d where it writes nothing or is unknown
+abbrev pub ofWritten {ℓ} : {A : Type ℓ} → Command → A → (Write → A) → A
+ofWritten c d f = ofKnown c d (λ k. ofWrite k d f)

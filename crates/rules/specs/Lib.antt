@@ -16,13 +16,14 @@ pub mod Transact
 pub mod EventEntries
 pub mod CountEntry
 pub mod Tape
+pub mod Reading
 pub mod Play
 pub mod Replay
 pub mod Job
 pub mod JobRefusals
+pub mod Bill
 pub mod Records
 pub mod Translate
 pub mod Ready
 pub mod Listing
-pub mod CEntries
 pub mod Bench

@@ -9,7 +9,8 @@ use Rattle.lists.specs.declared.Found.the-variants.{At, Nothing}
 use Rattle.rules.specs.declared.AtPlace.{AtPlace}
 use Rattle.rules.specs.declared.AtPlace.the-variants.{Transaction, Finish, PowerCycle, End, Fault}
 use Rattle.rules.specs.declared.Sent.{Sent}
-use Rattle.rules.specs.Tape.{whole, firstBad, records, readAt}
+use Rattle.rules.specs.Tape.{whole, firstBad, records}
+use Rattle.rules.specs.Reading.{readAt}
 
 -- "a tape of up to 65,472 bytes (more is 30)"
 abbrev pub listingLimit : ℕ
@@ -74,5 +75,5 @@ abbrev pub listed : List ℕ → Found → List ℕ
 listed t (At i) = refusedLine 31 i
 listed t Nothing = linesFrom t 0 (records t)
 
-unfoldable pub listingOf : List ℕ → List ℕ
-listingOf t = if (listingLimit <? length t) || not (whole t) then refusedLine 30 0 else listed t (firstBad t)
+unfoldable pub listingOf : (tape : List ℕ) → List ℕ
+listingOf tape = if (listingLimit <? length tape) || not (whole tape) then refusedLine 30 0 else listed tape (firstBad tape)

@@ -5,7 +5,7 @@ use Rattle.lists.specs.Choice.{_=?_}
 use Rattle.rules.specs.Part.{Part}
 use Rattle.rules.specs.Fm25q16.{fm25q16}
 
--- refusal 1: "part number not 1"
+-- else refusal 1: "part number not 1"
 unfoldable pub isPart : ℕ → Bool
 isPart k = k =? 1
 

@@ -1,22 +1,21 @@
--- The records that a job becomes, and by how much they raise the meter. Document 01, "Jobs and tapes".
-use Prim.Native.Nat.{ℕ, zero, suc, _+_, _-_, _*_, _/_, _%_}
+-- The records that a job becomes. Document 01, "Jobs and tapes".
+use Prim.Native.Nat.{ℕ, zero, suc, _+_, _-_, _/_, _%_}
 use mathlib.Core.Bool.{true}
 use mathlib.Core.List.{List, [], _∷_, _++_}
-use lib.ListN.{length, take, drop}
+use lib.ListN.{take, drop}
 use Rattle.rules.specs.declared.EraseUnit.{EraseUnit}
 use Rattle.rules.specs.declared.EraseUnit.the-variants.{Sector, Block32, Block64, Chip}
 use Rattle.rules.specs.declared.Kind.the-variants.{WriteEnable, Writes}
 use Rattle.rules.specs.declared.Write.the-variants.{Program, Erase, WriteStatus}
 use Rattle.rules.specs.declared.Step.{Step}
 use Rattle.rules.specs.declared.Step.the-variants.{EraseAt, Lay, Guard}
-use Rattle.rules.specs.declared.Bill.{Bill}
 use Rattle.rules.specs.Kinds.{codeOf}
 use Rattle.rules.specs.Part.{Part}
 use Rattle.rules.specs.Units.{page}
-use Rattle.rules.specs.Tape.{Rec, transaction, finish, recordLength}
+use Rattle.rules.specs.Tape.{Rec, transaction, finish}
 use Rattle.rules.specs.Job.{layBytes}
+use Rattle.rules.specs.Bill.{pagesTouched}
 
-infixl 65 _plus_
 -- "three records: 06, the command, finish, the first two with /WP high and no leftover bits"
 abbrev pub threeRecs : List ℕ → List Rec
 threeRecs b = transaction (codeOf WriteEnable ∷ []) 0 true ∷ transaction b 0 true ∷ finish ∷ []
@@ -42,10 +41,6 @@ pageRecs zero a bs = []
 pageRecs (suc n) a bs =
     threeRecs (codeOf (Writes Program) ∷ addressBytes a ++ take (leftInPage a) bs) ++ pageRecs n (a + leftInPage a) (drop (leftInPage a) bs)
 
--- "a lay at A of length L touches floor((A+L-1)/256) - floor(A/256) + 1 pages"
-abbrev pub pagesTouched : ℕ → ℕ → ℕ
-pagesTouched a n = (a + n - 1) / page - a / page + 1
-
 -- the records of a step
 abbrev pub stepRecs : Part → List ℕ → Step → List Rec
 stepRecs p payload (EraseAt u a) = threeRecs (eraseBytes u a)
@@ -56,26 +51,3 @@ stepRecs p payload (Guard g) = threeRecs (codeOf (Writes WriteStatus) ∷ p .gua
 unfoldable pub jobRecs : Part → List ℕ → List Step → List Rec
 jobRecs p payload [] = []
 jobRecs p payload (s ∷ ss) = stepRecs p payload s ++ jobRecs p payload ss
-
--- ---- the figures that the job alone gives
-
--- n commands of three records each
-abbrev pub tapeLength : ℕ → ℕ
-tapeLength n = 3 * recordLength * n
-
--- programs rise by the pages touched; "an erase or guard raises its own count by one"
-abbrev pub stepBill : Step → Bill
-stepBill (EraseAt u a) = record { programs = 0; erases = 1; «register_writes» = 0; length = tapeLength 1 }
-stepBill (Lay s) =
-    record { programs = pagesTouched (s .address) (s .length); erases = 0; «register_writes» = 0; length = tapeLength (pagesTouched (s .address) (s .length)) }
-stepBill (Guard g) = record { programs = 0; erases = 0; «register_writes» = 1; length = tapeLength 1 }
-
-abbrev pub noBill : Bill
-noBill = record { programs = 0; erases = 0; «register_writes» = 0; length = 0 }
-
-abbrev pub _plus_ : Bill → Bill → Bill
-a plus b = record { programs = a .programs + b .programs; erases = a .erases + b .erases; «register_writes» = a .«register_writes» + b .«register_writes»; length = a .length + b .length }
-
-unfoldable pub billOf : List Step → Bill
-billOf [] = noBill
-billOf (s ∷ ss) = stepBill s plus billOf ss

@@ -30,20 +30,24 @@ z orElse y = if accepted z then y else z
 abbrev pub transactionLimit : ℕ
 transactionLimit = 4096
 
--- "a transaction checks 1 to 7 in order": array of al bytes, n bytes with x leftover bits, output of ol bytes
-unfoldable pub transactRefusal : ℕ → ℕ → Kept → ℕ → ℕ → ℕ → Meter → Refusal
-transactRefusal part al kept n x ol m =
+-- "leftover bits over 7"
+abbrev pub leftoverLimit : ℕ
+leftoverLimit = 7
+
+-- "a transaction checks 1 to 7 in order": n bytes are clocked in
+unfoldable pub transactRefusal : (part arrayLength : ℕ) (kept : Kept) (n leftover outLength : ℕ) (meter : Meter) → Refusal
+transactRefusal part arrayLength kept n leftover outLength meter =
     if not (isPart part) then refusal 1 else
-    if not (al =? partOf part .size) then refusal 2 else
+    if not (arrayLength =? partOf part .size) then refusal 2 else
     if not (wellFormed (partOf part .statusEnd) kept) then refusal 3 else
     if transactionLimit <? n then refusal 4 else
-    if 7 <? x then refusal 5 else
-    if ol <? n then refusal 6 else
-    if not (room m 1) then refusal 7 else
+    if leftoverLimit <? leftover then refusal 5 else
+    if outLength <? n then refusal 6 else
+    if not (room meter 1) then refusal 7 else
     refusal 0
 
 -- "finish and power cycle only 1 and 3"
-unfoldable pub eventRefusal : ℕ → Kept → Refusal
+unfoldable pub eventRefusal : (part : ℕ) (kept : Kept) → Refusal
 eventRefusal part kept =
     if not (isPart part) then refusal 1 else
     if not (wellFormed (partOf part .statusEnd) kept) then refusal 3 else

@@ -11,7 +11,6 @@ use Rattle.rules.specs.declared.Meter.{Meter}
 use Rattle.rules.specs.declared.Refusal.{Refusal}
 use Rattle.rules.specs.declared.Replayed.{Replayed}
 use Rattle.rules.specs.declared.Replayed.the-variants.{Ended, Refused}
-use Rattle.rules.specs.Part.{Part}
 use Rattle.rules.specs.Parts.{isPart, partOf}
 use Rattle.rules.specs.Status.{regsOf, keptOf, wellFormed}
 use Rattle.rules.specs.Counts.{room}
@@ -26,49 +25,48 @@ badRecord (At i) = refusalAt 31 i
 badRecord Nothing = refusal 0
 
 -- ".. 31, 7"
-unfoldable pub recordsRefusal : Meter → List ℕ → Refusal
-recordsRefusal m t =
-    badRecord (firstBad t) orElse
-    if not (room m (records t)) then refusal 7 else
+unfoldable pub recordsRefusal : (meter : Meter) (tape : List ℕ) → Refusal
+recordsRefusal meter tape =
+    badRecord (firstBad tape) orElse
+    if not (room meter (records tape)) then refusal 7 else
     refusal 0
 
--- "replay checks 1, 2, 3, 30, 31, 7, all before its first record": array of al bytes, tape t
-unfoldable pub replayRefusal : ℕ → ℕ → Kept → Meter → List ℕ → Refusal
-replayRefusal part al kept m t =
+-- "replay checks 1, 2, 3, 30, 31, 7, all before its first record"
+unfoldable pub replayRefusal : (part arrayLength : ℕ) (kept : Kept) (meter : Meter) (tape : List ℕ) → Refusal
+replayRefusal part arrayLength kept meter tape =
     if not (isPart part) then refusal 1 else
-    if not (al =? partOf part .size) then refusal 2 else
+    if not (arrayLength =? partOf part .size) then refusal 2 else
     if not (wellFormed (partOf part .statusEnd) kept) then refusal 3 else
-    if not (whole t) then refusal 30 else
-    recordsRefusal m t
+    if not (whole tape) then refusal 30 else
+    recordsRefusal meter tape
 
 -- the paper's number and values: a refusal leaves the registers and the meter as they were handed in
-abbrev pub replayTold : Kept → Meter → Replayed → AnswerTold
-replayTold kept m (Ended s) = record { served = true; number = 0; code = 0; index = 0; regs = s .regs; meter = s .meter }
-replayTold kept m (Refused z) = record { served = false; number = z .number; code = 0; index = z .index; regs = kept; meter = m }
+abbrev pub replayTold : (kept : Kept) (meter : Meter) → Replayed → AnswerTold
+replayTold kept meter (Ended s) = record { served = true; number = 0; code = 0; index = 0; regs = s .regs; meter = s .meter }
+replayTold kept meter (Refused z) = record { served = false; number = z .number; code = 0; index = z .index; regs = kept; meter = meter }
 
 -- all that a caller sees
 pub record ReplaySeen : Type 0 where
   pub answer : AnswerTold
   pub array : List ℕ
 
-abbrev pub replaySeen : AnswerTold → List ℕ → ReplaySeen
-replaySeen t l = record { answer = t; array = l }
+abbrev pub replaySeen : (answer : AnswerTold) (array : List ℕ) → ReplaySeen
+replaySeen answer array = record { answer = answer; array = array }
 
-unfoldable pub replayServed : Kept → Meter → State → ReplaySeen
-replayServed kept m s = replaySeen (replayTold kept m (Ended (record { regs = keptOf (s .regs); meter = s .meter }))) (s .array)
+unfoldable pub replayServed : (kept : Kept) (meter : Meter) → State → ReplaySeen
+replayServed kept meter s = replaySeen (replayTold kept meter (Ended (record { regs = keptOf (s .regs); meter = s .meter }))) (s .array)
 
-unfoldable pub replayRefused : Kept → Meter → List ℕ → Refusal → ReplaySeen
-replayRefused kept m l z = replaySeen (replayTold kept m (Refused z)) l
+unfoldable pub replayRefused : (kept : Kept) (meter : Meter) (array : List ℕ) → Refusal → ReplaySeen
+replayRefused kept meter array z = replaySeen (replayTold kept meter (Refused z)) array
 
--- the first k records of the tape, unless it is refused with z
-unfoldable pub replayBy : Refusal → Part → Kept → Meter → List ℕ → List ℕ → ℕ → ReplaySeen
-replayBy z p kept m l t k =
-    if accepted z then replayServed kept m (play p (take k (recsOf t)) (state (regsOf kept) l m)) else replayRefused kept m l z
-
--- part number, registers, meter, array l, tape t: the checks are made on the whole tape, then min(k, records) are played
-unfoldable pub replayFirstOf : ℕ → Kept → Meter → List ℕ → List ℕ → ℕ → ReplaySeen
-replayFirstOf part kept m l t k = replayBy (replayRefusal part (length l) kept m t) (partOf part) kept m l t k
+-- the first k records: the checks are made on the whole tape, then min(k, records) are played
+unfoldable pub replayFirstOf : (part : ℕ) (kept : Kept) (meter : Meter) (array tape : List ℕ) (k : ℕ) → ReplaySeen
+replayFirstOf part kept meter array tape k =
+    let z = replayRefusal part (length array) kept meter tape in
+    if accepted z
+    then replayServed kept meter (play (partOf part) (take k (recsOf tape)) (state (regsOf kept) array meter))
+    else replayRefused kept meter array z
 
 -- all of them
-unfoldable pub replayOf : ℕ → Kept → Meter → List ℕ → List ℕ → ReplaySeen
-replayOf part kept m l t = replayFirstOf part kept m l t (records t)
+unfoldable pub replayOf : (part : ℕ) (kept : Kept) (meter : Meter) (array tape : List ℕ) → ReplaySeen
+replayOf part kept meter array tape = replayFirstOf part kept meter array tape (records tape)

@@ -1,5 +1,5 @@
 -- The registers: 16 status bits, and awake or asleep. Document 01, "Status bits and protection".
--- S0 BUSY, S1 WEL, S2 to S6 the setting, S7 SRP0, S8 SRP1, S9 QE; S10 to S15 are 0.
+-- S0 BUSY, S1 WEL, S2 to S6 the setting, S7 SRP0, S8 SRP1, S9 QE, S15 SUS; S10 to S15 are 0.
 use Prim.Native.Nat.{ℕ, _+_, _*_, _/_, _%_}
 use mathlib.Core.Bool.{Bool, true, false, not, _&&_, _||_}
 use Rattle.lists.specs.Choice.{_=?_, _<?_, _≤?_}
@@ -16,6 +16,22 @@ bit0 w = w % 2 =? 1
 abbrev pub bitAt : ℕ → ℕ → Bool
 bitAt weight w = w / weight % 2 =? 1
 
+-- the weights of the single bits, by document 01's names; BUSY is bit 0
+abbrev pub welBit : ℕ
+welBit = 2
+
+abbrev pub srp0Bit : ℕ
+srp0Bit = 128
+
+abbrev pub srp1Bit : ℕ
+srp1Bit = 256
+
+abbrev pub qeBit : ℕ
+qeBit = 512
+
+abbrev pub susBit : ℕ
+susBit = 32768
+
 -- the setting is S6..S2 read as a number 0 to 31
 abbrev pub settingOf : ℕ → ℕ
 settingOf w = w / 4 % 32
@@ -24,11 +40,11 @@ unfoldable pub regsOf : Kept → Regs
 regsOf k =
     record {
       busy = bit0 (k .status);
-      wel = bitAt 2 (k .status);
+      wel = bitAt welBit (k .status);
       setting = settingOf (k .status);
-      srp0 = bitAt 128 (k .status);
-      srp1 = bitAt 256 (k .status);
-      qe = bitAt 512 (k .status);
+      srp0 = bitAt srp0Bit (k .status);
+      srp1 = bitAt srp1Bit (k .status);
+      qe = bitAt qeBit (k .status);
       awake = k .awake =? 1;
     }
 
@@ -39,11 +55,11 @@ flag false = 0
 unfoldable pub statusOf : Regs → ℕ
 statusOf r =
     flag (r .busy)
-    + flag (r .wel) * 2
+    + flag (r .wel) * welBit
     + r .setting * 4
-    + flag (r .srp0) * 128
-    + flag (r .srp1) * 256
-    + flag (r .qe) * 512
+    + flag (r .srp0) * srp0Bit
+    + flag (r .srp1) * srp1Bit
+    + flag (r .qe) * qeBit
 
 unfoldable pub keptOf : Regs → Kept
 keptOf r = record { status = statusOf r; awake = flag (r .awake) }
@@ -63,11 +79,11 @@ implies s t = not s || t
 
 -- "well formed when S10 to S15 are 0, BUSY implies WEL, and BUSY implies awake": the status ends where the chip's does,
 -- which also keeps out one of more than 16 bits; an awake over 1 is no register either
-unfoldable pub wellFormed : ℕ → Kept → Bool
+unfoldable pub wellFormed : (statusEnd : ℕ) → Kept → Bool
 wellFormed statusEnd k =
     (k .status <? statusEnd)
     && (k .awake ≤? 1)
-    && implies (bit0 (k .status)) (bitAt 2 (k .status))
+    && implies (bit0 (k .status)) (bitAt welBit (k .status))
     && implies (bit0 (k .status)) (k .awake =? 1)
 
 -- ---- one register set, the others as they are: no rule writes the record out

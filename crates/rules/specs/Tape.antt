@@ -1,4 +1,4 @@
--- A tape's bytes, record by record. Document 01, "Jobs and tapes" and refusals 30 and 31.
+-- The format of a tape: its bytes, record by record. Document 01, "Jobs and tapes" and refusals 30 and 31.
 use Prim.Native.Nat.{ℕ, zero, suc, _+_, _-_, _*_, _/_, _%_}
 use mathlib.Core.Bool.{Bool, not, _&&_, _||_}
 use mathlib.Core.List.{List, [], _∷_, _++_}
@@ -6,9 +6,6 @@ use lib.ListN.{length, getD, take, drop, replicate}
 use Rattle.lists.specs.Choice.{if_then_else_, _=?_, _≤?_}
 use Rattle.lists.specs.Places.{everyIn, firstIn}
 use Rattle.lists.specs.declared.Found.{Found}
-use Rattle.rules.specs.declared.AtPlace.{AtPlace}
-use Rattle.rules.specs.declared.AtPlace.the-variants.{Transaction, Finish, PowerCycle, End, Fault}
-use Rattle.rules.specs.declared.Sent.{Sent}
 use Rattle.rules.specs.Status.{flag}
 
 -- what a record says
@@ -76,14 +73,14 @@ recsOf t = recsFrom t 0 (records t)
 
 -- ---- faults
 
--- not 30
+-- whole records; else 30
 abbrev pub whole : List ℕ → Bool
 whole t = length t % recordLength =? 0
 
 abbrev pub isZero : List ℕ → ℕ → Bool
 isZero t x = getD t x 0 =? 0
 
--- not 31: "length over 260, kind over 2, byte 3 over 15, a byte after its length not 0, or kind 1 or 2 with anything else not 0"
+-- a record is good, or else 31: "length over 260, kind over 2, byte 3 over 15, a byte after its length not 0, or kind 1 or 2 with anything else not 0"
 unfoldable pub goodRecord : List ℕ → ℕ → Bool
 goodRecord t p =
     (lengthAt t p ≤? sentLimit)
@@ -95,54 +92,6 @@ goodRecord t p =
 -- the first bad record
 unfoldable pub firstBad : List ℕ → Found
 firstBad t = firstIn (λ p. not (goodRecord t p)) 0 (records t)
-
--- ---- a read at place p
-
-abbrev pub sentAt : List ℕ → ℕ → Sent
-sentAt t p = record { start = bytesStart p; length = lengthAt t p; leftover = leftoverOf (bitsAt t p); high = highOf (bitsAt t p) }
-
-unfoldable pub readAt : List ℕ → ℕ → AtPlace
-readAt t p =
-    if not (whole t) then Fault 30 else
-    if records t ≤? p then End else
-    if not (goodRecord t p) then Fault 31 else
-    if kindAt t p =? 0 then Transaction (sentAt t p) else
-    if kindAt t p =? 1 then Finish else
-    PowerCycle
-
--- "a record moves the place by one, the end and a fault leave it"
-abbrev pub nextPlace : ℕ → AtPlace → ℕ
-nextPlace p (Transaction s) = p + 1
-nextPlace p Finish = p + 1
-nextPlace p PowerCycle = p + 1
-nextPlace p End = p
-nextPlace p (Fault n) = p
-
--- the paper's kind, number and values; 3 is the end and 4 a fault
-pub record ReadTold : Type 0 where
-  pub kind : ℕ
-  pub number : ℕ
-  pub length : ℕ
-  pub leftover : ℕ
-  pub wp : ℕ
-  pub start : ℕ
-  pub next : ℕ
-
--- an answer that is no transaction
-abbrev pub plainTold : ℕ → ℕ → ℕ → ReadTold
-plainTold kind number next = record { kind = kind; number = number; length = 0; leftover = 0; wp = 0; start = 0; next = next }
-
-abbrev pub readTold : ℕ → AtPlace → ReadTold
-readTold p (Transaction s) =
-    record { kind = 0; number = 0; length = s .length; leftover = s .leftover; wp = flag (s .high); start = s .start; next = nextPlace p (Transaction s) }
-readTold p Finish = plainTold 1 0 (nextPlace p Finish)
-readTold p PowerCycle = plainTold 2 0 (nextPlace p PowerCycle)
-readTold p End = plainTold 3 0 (nextPlace p End)
-readTold p (Fault n) = plainTold 4 n (nextPlace p (Fault n))
-
--- the entry `read`: nothing that is lent changes, so the answer is all that a caller sees
-unfoldable pub readOf : List ℕ → ℕ → ReadTold
-readOf t p = readTold p (readAt t p)
 
 -- ---- a record written
 

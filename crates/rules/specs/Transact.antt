@@ -9,7 +9,6 @@ use Rattle.rules.specs.declared.Meter.{Meter}
 use Rattle.rules.specs.declared.Refusal.{Refusal}
 use Rattle.rules.specs.declared.Transacted.{Transacted}
 use Rattle.rules.specs.declared.Transacted.the-variants.{Stepped, Refused}
-use Rattle.rules.specs.Part.{Part}
 use Rattle.rules.specs.Parts.{partOf}
 use Rattle.rules.specs.Status.{regsOf, keptOf}
 use Rattle.rules.specs.Verdict.{verdictTold}
@@ -27,11 +26,11 @@ pub record AnswerTold : Type 0 where
   pub regs : Kept
   pub meter : Meter
 
-abbrev pub transactTold : Kept → Meter → Transacted → AnswerTold
-transactTold kept m (Stepped s) =
+abbrev pub transactTold : (kept : Kept) (meter : Meter) → Transacted → AnswerTold
+transactTold kept meter (Stepped s) =
     record { served = true; number = verdictTold (s .verdict) .number; code = verdictTold (s .verdict) .code; index = 0; regs = s .regs; meter = s .meter }
-transactTold kept m (Refused z) =
-    record { served = false; number = z .number; code = 0; index = z .index; regs = kept; meter = m }
+transactTold kept meter (Refused z) =
+    record { served = false; number = z .number; code = 0; index = z .index; regs = kept; meter = meter }
 
 -- all that a caller sees
 pub record TransactSeen : Type 0 where
@@ -39,30 +38,29 @@ pub record TransactSeen : Type 0 where
   pub array : List ℕ
   pub out : List ℕ
 
-abbrev pub transactSeen : AnswerTold → List ℕ → List ℕ → TransactSeen
-transactSeen t l o = record { answer = t; array = l; out = o }
+abbrev pub transactSeen : (answer : AnswerTold) (array out : List ℕ) → TransactSeen
+transactSeen answer array out = record { answer = answer; array = array; out = out }
 
 -- a transaction that is served: "success writes only the first n output bytes"
-unfoldable pub transactServed : Kept → Meter → List ℕ → List ℕ → Turn → TransactSeen
-transactServed kept m o b t =
+unfoldable pub transactServed : (kept : Kept) (meter : Meter) (out bytes : List ℕ) → Turn → TransactSeen
+transactServed kept meter out bytes t =
     transactSeen
-    (transactTold kept m (Stepped (record { verdict = t .verdict; regs = keptOf (t .regs); meter = meterAfter m (t .verdict) })))
+    (transactTold kept meter (Stepped (record { verdict = t .verdict; regs = keptOf (t .regs); meter = meterAfter meter (t .verdict) })))
     (t .array)
-    (t .out ++ drop (length b) o)
+    (t .out ++ drop (length bytes) out)
 
 -- .. and one that is refused with z: "registers, meter, array, output and tape stay"
-unfoldable pub transactRefused : Kept → Meter → List ℕ → List ℕ → Refusal → TransactSeen
-transactRefused kept m l o z = transactSeen (transactTold kept m (Refused z)) l o
-
-unfoldable pub transactBy : Refusal → Part → Kept → Meter → List ℕ → List ℕ → List ℕ → ℕ → Bool → TransactSeen
-transactBy z p kept m l o b x high =
-    if accepted z then transactServed kept m o b (turnOf p (regsOf kept) l b x high) else transactRefused kept m l o z
+unfoldable pub transactRefused : (kept : Kept) (meter : Meter) (array out : List ℕ) → Refusal → TransactSeen
+transactRefused kept meter array out z = transactSeen (transactTold kept meter (Refused z)) array out
 
 -- /WP is low at 0, and else high
 abbrev pub isHigh : ℕ → Bool
 isHigh wp = not (wp =? 0)
 
--- part number, registers, meter, array l, output o, bytes b with x leftover bits, and the level of /WP
-unfoldable pub transactOf : ℕ → Kept → Meter → List ℕ → List ℕ → List ℕ → ℕ → ℕ → TransactSeen
-transactOf part kept m l o b x wp =
-    transactBy (transactRefusal part (length l) kept (length b) x (length o) m) (partOf part) kept m l o b x (isHigh wp)
+-- the bytes are those clocked in, and `leftover` the bits after them
+unfoldable pub transactOf : (part : ℕ) (kept : Kept) (meter : Meter) (array out bytes : List ℕ) (leftover wp : ℕ) → TransactSeen
+transactOf part kept meter array out bytes leftover wp =
+    let z = transactRefusal part (length array) kept (length bytes) leftover (length out) meter in
+    if accepted z
+    then transactServed kept meter out bytes (turnOf (partOf part) (regsOf kept) array bytes leftover (isHigh wp))
+    else transactRefused kept meter array out z

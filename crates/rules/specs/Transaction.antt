@@ -86,7 +86,7 @@ pub record Turn : Type 0 where
   pub array : List ℕ
   pub out : List ℕ
 
-abbrev pub turnBy : Part → Regs → List ℕ → List ℕ → Verdict → Turn
+abbrev pub turnBy : (p : Part) (r : Regs) (l b : List ℕ) → Verdict → Turn
 turnBy p r l b v =
     record {
       verdict = v;
@@ -96,5 +96,5 @@ turnBy p r l b v =
     }
 
 -- bytes b with x leftover bits and /WP high or low, sent to a chip with registers r and array l
-unfoldable pub turnOf : Part → Regs → List ℕ → List ℕ → ℕ → Bool → Turn
+unfoldable pub turnOf : (p : Part) (r : Regs) (l b : List ℕ) (x : ℕ) (high : Bool) → Turn
 turnOf p r l b x high = turnBy p r l b (verdictOf p r b x high)

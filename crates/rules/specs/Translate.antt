@@ -15,20 +15,21 @@ use Rattle.rules.specs.Parts.{partOf}
 use Rattle.rules.specs.Tape.{encode}
 use Rattle.rules.specs.Job.{stepsOf}
 use Rattle.rules.specs.JobRefusals.{jobRefusal}
-use Rattle.rules.specs.Records.{jobRecs, noBill, billOf}
+use Rattle.rules.specs.Records.{jobRecs}
+use Rattle.rules.specs.Bill.{noBill, billOf}
 use Rattle.rules.specs.Refusals.{refusal, accepted, _orElse_}
 
 -- the tape of a job: its bytes
-unfoldable pub tapeOf : Part → List ℕ → List ℕ → List ℕ
+unfoldable pub tapeOf : (p : Part) (job payload : List ℕ) → List ℕ
 tapeOf p job payload = encode (jobRecs p payload (stepsOf job))
 
 -- ---- translate
 
--- ".. then 26": tape buffer of tl bytes
-unfoldable pub translateRefusal : ℕ → ℕ → List ℕ → List ℕ → ℕ → Refusal
-translateRefusal part s job payload tl =
-    jobRefusal part s job (length payload) orElse
-    if tl <? length (tapeOf (partOf part) job payload) then refusal 26 else
+-- ".. then 26": "tape buffer too small"
+unfoldable pub translateRefusal : (part setting : ℕ) (job payload : List ℕ) (bufferLength : ℕ) → Refusal
+translateRefusal part setting job payload bufferLength =
+    jobRefusal part setting job (length payload) orElse
+    if bufferLength <? length (tapeOf (partOf part) job payload) then refusal 26 else
     refusal 0
 
 -- the paper's number and values
@@ -47,20 +48,17 @@ pub record TranslateSeen : Type 0 where
   pub answer : TapeTold
   pub tape : List ℕ
 
-abbrev pub translateSeen : TapeTold → List ℕ → TranslateSeen
-translateSeen t tape = record { answer = t; tape = tape }
+abbrev pub translateSeen : (answer : TapeTold) (tape : List ℕ) → TranslateSeen
+translateSeen answer tape = record { answer = answer; tape = tape }
 
--- "success writes only .. the tape's own length"; w is the tape of the job
-unfoldable pub translateBy : Refusal → List ℕ → List ℕ → TranslateSeen
-translateBy z w tape =
+-- "success writes only .. the tape's own length" of the buffer that is lent; `setting` is the one at the start
+unfoldable pub translateOf : (part setting : ℕ) (job payload buffer : List ℕ) → TranslateSeen
+translateOf part setting job payload buffer =
+    let z = translateRefusal part setting job payload (length buffer) in
+    let tape = tapeOf (partOf part) job payload in
     if accepted z
-    then translateSeen (translateTold (T.Written (length w))) (w ++ drop (length w) tape)
-    else translateSeen (translateTold (T.Refused z)) tape
-
--- part number, start setting, job, payload, tape buffer
-unfoldable pub translateOf : ℕ → ℕ → List ℕ → List ℕ → List ℕ → TranslateSeen
-translateOf part s job payload tape =
-    translateBy (translateRefusal part s job payload (length tape)) (tapeOf (partOf part) job payload) tape
+    then translateSeen (translateTold (T.Written (length tape))) (tape ++ drop (length tape) buffer)
+    else translateSeen (translateTold (T.Refused z)) buffer
 
 -- ---- quote: the bill beforehand, with the refusals of translate but 26; nothing that is lent changes
 
@@ -74,8 +72,7 @@ abbrev pub quoteTold : Quoted → BillTold
 quoteTold (Q.Billed b) = record { served = true; number = 0; index = 0; bill = b }
 quoteTold (Q.Refused z) = record { served = false; number = z .number; index = z .index; bill = noBill }
 
-unfoldable pub quoteBy : Refusal → Bill → BillTold
-quoteBy z b = if accepted z then quoteTold (Q.Billed b) else quoteTold (Q.Refused z)
-
-unfoldable pub quoteOf : ℕ → ℕ → List ℕ → ℕ → BillTold
-quoteOf part s job payloadLength = quoteBy (jobRefusal part s job payloadLength) (billOf (stepsOf job))
+unfoldable pub quoteOf : (part setting : ℕ) (job : List ℕ) (payloadLength : ℕ) → BillTold
+quoteOf part setting job payloadLength =
+    let z = jobRefusal part setting job payloadLength in
+    if accepted z then quoteTold (Q.Billed (billOf (stepsOf job))) else quoteTold (Q.Refused z)

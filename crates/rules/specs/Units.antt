@@ -16,6 +16,10 @@ block32 = 32768
 abbrev pub block64 : ℕ
 block64 = 65536
 
+-- an address is three bytes, so it is below this
+abbrev pub addressEnd : ℕ
+addressEnd = 16777216
+
 -- where the page of an address begins
 abbrev pub pageStart : ℕ → ℕ
 pageStart a = a / page * page

@@ -12,11 +12,15 @@ pub const BLOCK_64: usize = 65536;
 
 pub const TRANSACTION_LIMIT: usize = 4096;
 
+pub const LEFTOVER_LIMIT: u32 = 7;
+
 pub const COUNT_LIMIT: usize = 4294967295;
 
 pub const RECORD_LENGTH: usize = 264;
 
 pub const SENT_LIMIT: usize = 260;
+
+pub const COMMAND_LENGTH: usize = 792;
 
 pub const STEP_LENGTH: usize = 16;
 
@@ -25,6 +29,8 @@ pub const JOB_LIMIT: usize = 64;
 pub const PAYLOAD_LIMIT: usize = 65536;
 
 pub const LAY_LIMIT: usize = 4096;
+
+pub const SETTING_LIMIT: u32 = 31;
 
 pub const LISTING_LIMIT: usize = 65472;
 
@@ -204,49 +210,4 @@ pub struct Bill {
 pub enum Quoted {
     Billed(Bill),
     Refused(Refusal),
-}
-
-// ---- the answers as the C interface has them: numbers alone
-
-#[repr(C)]
-pub struct TbAnswer {
-    pub number: u32,
-    pub index: u64,
-    pub regs: Kept,
-    pub meter: Meter,
-}
-
-#[repr(C)]
-pub struct TbEvent {
-    pub number: u32,
-    pub index: u64,
-    pub regs: Kept,
-}
-
-#[repr(C)]
-pub struct TbTape {
-    pub number: u32,
-    pub index: u64,
-    pub length: u64,
-}
-
-#[repr(C)]
-pub struct TbBill {
-    pub number: u32,
-    pub index: u64,
-    pub programs: u32,
-    pub erases: u32,
-    pub register_writes: u32,
-    pub length: u64,
-}
-
-#[repr(C)]
-pub struct TbRecord {
-    pub kind: u32,
-    pub number: u32,
-    pub length: u32,
-    pub leftover: u32,
-    pub wp: u32,
-    pub start: u64,
-    pub next: u64,
 }

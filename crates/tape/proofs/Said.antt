@@ -10,7 +10,8 @@ use borrow.Author.Tests.{leb-false, lt-leb}
 use Rattle.lists.specs.Choice.{if_then_else_}
 use Rattle.rules.specs.declared.AtPlace.{AtPlace}
 use Rattle.rules.specs.declared.AtPlace.the-variants.{Transaction, Finish, PowerCycle, End, Fault}
-use Rattle.rules.specs.Tape.{finish, powerCycle, kindAt, sentAt, recAt, records, whole, goodRecord, readAt, nextPlace, readTold, readOf}
+use Rattle.rules.specs.Tape.{finish, powerCycle, kindAt, recAt, records, whole, goodRecord}
+use Rattle.rules.specs.Reading.{sentAt, readAt, nextPlace, readTold, readOf}
 use Rattle.rules.proofs.Apart.{reads-apart}
 use Rattle.tape.specs.Record.{saidAt, recOf}
 

@@ -1,7 +1,7 @@
 -- What a reader's read answers, and the reader after it.
 use denote.Ref.{now}
 use Rattle.rules.specs.declared.AtPlace.{AtPlace}
-use Rattle.rules.specs.Tape.{ReadTold, readTold, readOf}
+use Rattle.rules.specs.Reading.{ReadTold, readTold, readOf}
 use Rattle.tape.specs.declared.Reader.{Reader}
 
 -- an answer, told at the reader's place

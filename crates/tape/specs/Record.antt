@@ -6,7 +6,8 @@ use lib.ListN.{take, drop}
 use Rattle.lists.specs.Choice.{if_then_else_, _=?_, _≤?_}
 use Rattle.rules.specs.declared.AtPlace.{AtPlace}
 use Rattle.rules.specs.declared.AtPlace.the-variants.{Transaction, Finish, PowerCycle, End, Fault}
-use Rattle.rules.specs.Tape.{Rec, transaction, finish, powerCycle, sentLimit, kindAt, sentAt}
+use Rattle.rules.specs.Tape.{Rec, transaction, finish, powerCycle, sentLimit, kindAt}
+use Rattle.rules.specs.Reading.{sentAt}
 
 -- what 31 asks of a record's length, kind and byte 3
 unfoldable pub headGood : ℕ → ℕ → ℕ → Bool

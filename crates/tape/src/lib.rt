@@ -10,7 +10,8 @@ ghost use Prim.Native.Nat.{_+_, _*_, _≤_, _<_, _^_};
 ghost use lib.ListN.{length, take, drop, replicate};
 ghost use Rattle.lists.specs.Places.{everyIn};
 ghost use Rattle.rules.specs.Status.{flag};
-ghost use Rattle.rules.specs.Tape.{Rec, recordLength, sentLimit, lengthAt, whole, records, isZero, goodRecord, firstBad, nextPlace, readTold, readOf, encodeRec};
+ghost use Rattle.rules.specs.Tape.{Rec, recordLength, sentLimit, lengthAt, whole, records, isZero, goodRecord, firstBad, encodeRec};
+ghost use Rattle.rules.specs.Reading.{nextPlace, readTold, readOf};
 ghost use Rattle.tape.specs.Moves.{told, found, after};
 ghost use Rattle.tape.specs.Record.{headGood, saidAt};
 

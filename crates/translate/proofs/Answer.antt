@@ -14,7 +14,7 @@ use Rattle.rules.specs.Parts.{partOf}
 use Rattle.rules.specs.Job.{stepAt, stepCount}
 use Rattle.rules.specs.JobRefusals.{outside, beyond, jobRefusal}
 use Rattle.rules.specs.Refusals.{refusal, _orElse_}
-use Rattle.rules.specs.Translate.{tapeOf, translateRefusal, translateTold, translateSeen, translateBy, translateOf}
+use Rattle.rules.specs.Translate.{tapeOf, translateRefusal, translateTold, translateSeen, translateOf}
 use Rattle.laws.proofs.Sound.{part-sound, size-small}
 use Rattle.laws.proofs.Guards.{guard-small}
 use Rattle.laws.proofs.Inside.{erase-inside}
@@ -44,16 +44,16 @@ module _ (part s : ℕ) (job payload : List ℕ) (ok : jobRefusal part s job (le
 module _ (part s : ℕ) (job payload tape : List ℕ) where
   pub translate-refused : (z : Refusal) → z ≡ jobRefusal part s job (length payload) → (z .number ≡ 0 → ⊥)
       → translateSeen (translateTold (Refused z)) tape ≡ translateOf part s job payload tape
-  unfolding translateOf translateBy translateRefusal _orElse_ if_then_else_
+  unfolding translateOf translateRefusal _orElse_ if_then_else_
   translate-refused z e h = rw (← e, ne-eqb (z .number) 0 h, ne-eqb (z .number) 0 h)
 
   pub translate-small : jobRefusal part s job (length payload) .number ≡ 0 → length tape < length (tapeOf (partOf part) job payload)
       → translateSeen (translateTold (Refused (refusal 26))) tape ≡ translateOf part s job payload tape
-  unfolding translateOf translateBy translateRefusal _orElse_ if_then_else_
+  unfolding translateOf translateRefusal _orElse_ if_then_else_
   translate-small e h = sym (rw (e, lt-ltb (length tape) (length (tapeOf (partOf part) job payload)) h))
 
   pub translate-served : jobRefusal part s job (length payload) .number ≡ 0 → length (tapeOf (partOf part) job payload) ≤ length tape
       → translateSeen (translateTold (Written (length (tapeOf (partOf part) job payload)))) (tapeOf (partOf part) job payload ++ drop (length (tapeOf (partOf part) job payload)) tape)
       ≡ translateOf part s job payload tape
-  unfolding translateOf translateBy translateRefusal _orElse_ if_then_else_
+  unfolding translateOf translateRefusal _orElse_ if_then_else_
   translate-served e h = sym (rw (e, le-ltb (length tape) (length (tapeOf (partOf part) job payload)) h))

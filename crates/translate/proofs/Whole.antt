@@ -14,7 +14,8 @@ use Rattle.rules.specs.Parts.{partOf}
 use Rattle.rules.specs.Tape.{Rec, encode}
 use Rattle.rules.specs.Job.{settingLimit, stepAt, stepsFrom, stepsOf, withStep, layBytes, settingMeant}
 use Rattle.rules.specs.JobRefusals.{jobRefusal}
-use Rattle.rules.specs.Records.{pagesTouched, stepRecs, jobRecs, billOf}
+use Rattle.rules.specs.Records.{stepRecs, jobRecs}
+use Rattle.rules.specs.Bill.{pagesTouched, billOf}
 use Rattle.rules.specs.Translate.{tapeOf}
 use Rattle.laws.proofs.RecordOk.{RecsOk, no-recs}
 use Rattle.tape.proofs.Encoded.{encode-length, encode-append}

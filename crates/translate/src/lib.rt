@@ -3,7 +3,6 @@ use rules::Decoded;
 use rules::EraseUnit;
 use rules::PAGE;
 use rules::RECORD_LENGTH;
-use rules::Refusal;
 use rules::STEP_LENGTH;
 use rules::Span;
 use rules::Step;
@@ -13,19 +12,22 @@ ghost use mathlib.Core.Path.{_≡_};
 ghost use mathlib.Core.List.{_∷_, _++_};
 ghost use Prim.Native.Nat.{_+_, _*_, _≤_, _<_};
 ghost use lib.ListN.{length};
-ghost use Rattle.rules.specs.Tape.{Rec, encodeRec, encode, recordLength};
+ghost use Rattle.rules.specs.Tape.{Rec, encodeRec, encode, recordLength, sentLimit};
 ghost use Rattle.rules.specs.Parts.{partOf};
-ghost use Rattle.rules.specs.Job.{layBytes, stepsOf};
+ghost use Rattle.rules.specs.Job.{settingLimit, layBytes, stepsOf};
 ghost use Rattle.rules.specs.Translate.{translateTold, translateSeen, translateOf};
-ghost use Rattle.rules.specs.Records.{threeRecs, addressBytes, eraseBytes, pagesTouched, pageRecs, stepRecs, jobRecs};
+ghost use Rattle.rules.specs.Records.{threeRecs, addressBytes, eraseBytes, pageRecs, stepRecs, jobRecs};
+ghost use Rattle.rules.specs.Bill.{pagesTouched};
 ghost use Rattle.job.specs.Counted.{Short};
 ghost use Rattle.translate.specs.Writable.{Writable, WritableJob, recordCount, decodedRecs, decodedCount};
 ghost use Rattle.translate.specs.Spliced.{spliced, Fits};
+ghost use Rattle.lists.specs.Width.{numberEnd};
+ghost use Rattle.rules.specs.Units.{page, addressEnd};
 
 // ---- records from record k on
 
 fn put_sent(tape: &mut [u8], k: usize, b: &[u8])
-    requires { ⌜ Fits (now tape) k 1 × (length (now b) ≤ 260) ⌝ }
+    requires { ⌜ Fits (now tape) k 1 × (length (now b) ≤ sentLimit) ⌝ }
     ensures { λ _. ⌜ now (tape .exit) ≡ spliced (now (tape .entry)) (recordLength * k) (encodeRec (Rec.transaction (now (b .entry)) 0 true)) ⌝ }
 {
     let at = RECORD_LENGTH * k;
@@ -44,7 +46,7 @@ fn put_end(tape: &mut [u8], k: usize)
 
 // 06, the command, finish.
 fn put_three(tape: &mut [u8], k: usize, b: &[u8])
-    requires { ⌜ Fits (now tape) k 3 × (length (now b) ≤ 260) ⌝ }
+    requires { ⌜ Fits (now tape) k 3 × (length (now b) ≤ sentLimit) ⌝ }
     ensures { λ _. ⌜ now (tape .exit) ≡ spliced (now (tape .entry)) (recordLength * k) (encode (threeRecs (now (b .entry)))) ⌝ }
 {
     let enable = [6u8];
@@ -57,7 +59,7 @@ fn put_three(tape: &mut [u8], k: usize, b: &[u8])
 
 // One page of a lay: the command, its address, the data.
 fn put_program(tape: &mut [u8], k: usize, a: usize, data: &[u8])
-    requires { ⌜ Fits (now tape) k 3 × (length (now «data») ≤ 256) × (a < 16777216) ⌝ }
+    requires { ⌜ Fits (now tape) k 3 × (length (now «data») ≤ page) × (a < addressEnd) ⌝ }
     ensures { λ _. ⌜ now (tape .exit) ≡ spliced (now (tape .entry)) (recordLength * k) (encode (threeRecs (0x02 ∷ addressBytes a ++ now («data» .entry)))) ⌝ }
 {
     let head = [
@@ -75,7 +77,7 @@ fn put_program(tape: &mut [u8], k: usize, a: usize, data: &[u8])
 
 // An erase: the whole chip has no address.
 fn put_erase(tape: &mut [u8], k: usize, u: EraseUnit, a: usize)
-    requires { ⌜ Fits (now tape) k 3 × (a < 16777216) ⌝ }
+    requires { ⌜ Fits (now tape) k 3 × (a < addressEnd) ⌝ }
     ensures { λ _. ⌜ now (tape .exit) ≡ spliced (now (tape .entry)) (recordLength * k) (encode (threeRecs (eraseBytes u a))) ⌝ }
 {
     match u {
@@ -87,7 +89,7 @@ fn put_erase(tape: &mut [u8], k: usize, u: EraseUnit, a: usize)
 }
 
 fn put_addressed(tape: &mut [u8], k: usize, op: u8, a: usize)
-    requires { ⌜ Fits (now tape) k 3 × (a < 16777216) ⌝ }
+    requires { ⌜ Fits (now tape) k 3 × (a < addressEnd) ⌝ }
     ensures { λ _. ⌜ now (tape .exit) ≡ spliced (now (tape .entry)) (recordLength * k) (encode (threeRecs (op ∷ addressBytes a))) ⌝ }
 {
     let b = [
@@ -100,7 +102,7 @@ fn put_addressed(tape: &mut [u8], k: usize, op: u8, a: usize)
 }
 
 fn put_guard(part: u32, tape: &mut [u8], k: usize, g: u8)
-    requires { ⌜ Fits (now tape) k 3 × (g ≤ 31) ⌝ }
+    requires { ⌜ Fits (now tape) k 3 × (g ≤ settingLimit) ⌝ }
     ensures { λ _. ⌜ now (tape .exit) ≡ spliced (now (tape .entry)) (recordLength * k) (encode (threeRecs (0x01 ∷ partOf part .guardBytes g))) ⌝ }
 {
     let w = parts::guard_bytes(part, g);
@@ -132,7 +134,7 @@ fn put_lay(tape: &mut [u8], k: usize, s: Span, payload: &[u8])
 
 // The records of a step, from record k on; the answer is the record after them.
 fn put_step(part: u32, tape: &mut [u8], k: usize, w: Step, payload: &[u8]) -> usize
-    requires { ⌜ Writable (partOf part) (now payload) w × Fits (now tape) k (recordCount w) × (k < 4294967296) ⌝ }
+    requires { ⌜ Writable (partOf part) (now payload) w × Fits (now tape) k (recordCount w) × (k < numberEnd) ⌝ }
     ensures { λ r. ⌜ (r ≡ k + recordCount w) × (now (tape .exit) ≡ spliced (now (tape .entry)) (recordLength * k) (encode (stepRecs (partOf part) (now (payload .entry)) w))) ⌝ }
 {
     match w {
@@ -152,7 +154,7 @@ fn put_step(part: u32, tape: &mut [u8], k: usize, w: Step, payload: &[u8]) -> us
 }
 
 fn put_decoded(part: u32, tape: &mut [u8], k: usize, d: Decoded, payload: &[u8]) -> usize
-    requires { ⌜ ((w : Step) → d ≡ Decoded.Good w → Writable (partOf part) (now payload) w) × Fits (now tape) k (decodedCount d) × (k < 4294967296) ⌝ }
+    requires { ⌜ ((w : Step) → d ≡ Decoded.Good w → Writable (partOf part) (now payload) w) × Fits (now tape) k (decodedCount d) × (k < numberEnd) ⌝ }
     ensures { λ r. ⌜ (r ≡ k + decodedCount d) × (now (tape .exit) ≡ spliced (now (tape .entry)) (recordLength * k) (encode (decodedRecs (partOf part) (now (payload .entry)) d))) ⌝ }
 {
     let Decoded::Good(w) = d else {
@@ -180,10 +182,10 @@ fn put_steps(part: u32, tape: &mut [u8], job: &[u8], payload: &[u8])
 // ---- the entry: any input
 
 // Every check comes before the first byte is written.
-pub fn translate(part: u32, s: u32, job: &[u8], payload: &[u8], tape: &mut [u8]) -> Translated
-    ensures { λ t. ⌜ translateSeen (translateTold t) (now (tape .exit)) ≡ translateOf part s (now (job .entry)) (now (payload .entry)) (now (tape .entry)) ⌝ }
+pub fn translate(part: u32, setting: u32, job: &[u8], payload: &[u8], tape: &mut [u8]) -> Translated
+    ensures { λ t. ⌜ translateSeen (translateTold t) (now (tape .exit)) ≡ translateOf part setting (now (job .entry)) (now (payload .entry)) (now (tape .entry)) ⌝ }
 {
-    let z = job::refuse::job_refusal(part, s, job, payload.len());
+    let z = job::refuse::job_refusal(part, setting, job, payload.len());
     let number = z.number;
     if number != 0 {
         return Translated::Refused(z);
@@ -191,10 +193,7 @@ pub fn translate(part: u32, s: u32, job: &[u8], payload: &[u8], tape: &mut [u8])
     let bill = job::bill::bill_of(job);
     let length = bill.length;
     if tape.len() < length {
-        return Translated::Refused(Refusal {
-            number: 26,
-            index: 0,
-        });
+        return Translated::Refused(refusals::refusal(26));
     }
     put_steps(part, tape, job, payload);
     Translated::Written(length)

@@ -8,7 +8,8 @@ use lib.Dec.{eqb, leb}
 use Rattle.lists.specs.Choice.{if_then_else_}
 use Rattle.rules.specs.declared.AtPlace.the-variants.{Transaction, Finish, PowerCycle, End, Fault}
 use Rattle.rules.specs.declared.Sent.{Sent}
-use Rattle.rules.specs.Tape.{sentLimit, whole, records, kindAt, goodRecord, sentAt, readAt, ReadTold, readTold, readOf}
+use Rattle.rules.specs.Tape.{sentLimit, whole, records, kindAt, goodRecord}
+use Rattle.rules.specs.Reading.{sentAt, readAt, ReadTold, readTold, readOf}
 use Rattle.tape.proofs.Good.{good-short}
 use Rattle.tape.proofs.Said.{read-is}
 

@@ -5,25 +5,64 @@ use rules::Kept;
 use rules::Meter;
 use rules::Quoted;
 use rules::Replayed;
-use rules::TbAnswer;
-use rules::TbBill;
-use rules::TbEvent;
-use rules::TbRecord;
-use rules::TbTape;
 use rules::Transacted;
 use rules::Translated;
 use rules::Verdict;
 ghost use mathlib.Core.Path.{_≡_};
-ghost use Rattle.rules.specs.Status.{flag};
 ghost use Rattle.rules.specs.Verdict.{verdictTold};
 ghost use Rattle.rules.specs.Transact.{transactTold, transactOf};
 ghost use Rattle.rules.specs.EventEntries.{eventTold, finishOf, powerCycleOf};
 ghost use Rattle.rules.specs.CountEntry.{metered, countOf};
 ghost use Rattle.rules.specs.Replay.{replayTold, replayOf, replayFirstOf};
-ghost use Rattle.rules.specs.Tape.{plainTold, readOf};
+ghost use Rattle.rules.specs.Reading.{plainTold, readOf};
 ghost use lib.ListN.{length};
 ghost use Rattle.rules.specs.Translate.{translateTold, translateOf, quoteTold, quoteOf};
-ghost use Rattle.rules.specs.CEntries.{tbAnswer, tbEvent, tbTape, tbBill, tbRecord, tbTransact, tbReplay, tbTranslate, tbSeen, tbPlayed, tbTranslated};
+ghost use Rattle.tunebriar.specs.CEntries.{tbAnswer, tbEvent, tbTape, tbBill, tbRecord, tbTransact, tbReplay, tbTranslate, tbSeen, tbPlayed, tbTranslated};
+
+// ---- the answers as the C interface has them: numbers alone
+
+#[repr(C)]
+pub struct TbAnswer {
+    pub number: u32,
+    pub index: u64,
+    pub regs: Kept,
+    pub meter: Meter,
+}
+
+#[repr(C)]
+pub struct TbEvent {
+    pub number: u32,
+    pub index: u64,
+    pub regs: Kept,
+}
+
+#[repr(C)]
+pub struct TbTape {
+    pub number: u32,
+    pub index: u64,
+    pub length: u64,
+}
+
+#[repr(C)]
+pub struct TbBill {
+    pub number: u32,
+    pub index: u64,
+    pub programs: u32,
+    pub erases: u32,
+    pub register_writes: u32,
+    pub length: u64,
+}
+
+#[repr(C)]
+pub struct TbRecord {
+    pub kind: u32,
+    pub number: u32,
+    pub length: u32,
+    pub leftover: u32,
+    pub wp: u32,
+    pub start: u64,
+    pub next: u64,
+}
 
 // ---- answers as numbers
 
@@ -185,7 +224,7 @@ pub extern "C" fn tb_read(tape: &[u8], place: u64) -> TbRecord
             number: 0,
             length: sent.length as u32,
             leftover: sent.leftover as u32,
-            wp: level(sent.high),
+            wp: regs::flag_of(sent.high),
             start: sent.start as u64,
             next: next,
         },
@@ -194,12 +233,6 @@ pub extern "C" fn tb_read(tape: &[u8], place: u64) -> TbRecord
         AtPlace::End => plain(3, 0, next),
         AtPlace::Fault(number) => plain(4, number as u32, next),
     }
-}
-
-fn level(high: bool) -> u32
-    ensures { λ n. ⌜ n ≡ flag high ⌝ }
-{
-    if high { 1 } else { 0 }
 }
 
 // An answer that is no transaction.

@@ -34,7 +34,7 @@ same-length c = search needs
 returns : tie.Need-returns
 returns c =
     let a = c .before .before .before .before .before .before .before .before .args in
-    c .before .before .copy .ensures ∙ straight (a .array .now) (a .a) (length (a .out .now)) (omega arith)
+    c .before .before .copy .ensures ∙ straight (a .array .now) (a .address) (length (a .out .now)) (omega arith)
 
 sub-rest : tie.Need-sub-rest
 sub-rest c = search needs
@@ -90,10 +90,10 @@ returns-2 c =
     let a = k .before .before .before .before .before .before .args in
     let l = a .array .now in
     let y = c .before .before .copy3 .last .0 in
-    put-tail _ y (length l - a .a)
-    ∙ ap (λ (x : List ℕ). x ++ y) (take-at (k .copy2 .last .0) _ (length l - a .a) (omega arith))
+    put-tail _ y (length l - a .address)
+    ∙ ap (λ (x : List ℕ). x ++ y) (take-at (k .copy2 .last .0) _ (length l - a .address) (omega arith))
     ∙ (λ i. k .copy2 .ensures i ++ c .before .before .copy3 .ensures i)
-    ∙ wrapped l (a .a) (length (a .out .now)) (omega arith) (omega arith) (omega arith)
+    ∙ wrapped l (a .address) (length (a .out .now)) (omega arith) (omega arith) (omega arith)
 
 pub copy-wrapped-spec : {M : Type 1} → statement M
 copy-wrapped-spec =

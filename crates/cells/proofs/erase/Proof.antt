@@ -27,7 +27,7 @@ same-length c = search needs
 returns : tie.Need-returns
 returns c =
     let a = c .before .before .before .before .before .args in
-    part-patched _ _ (a .a) (a .n) ff ff (omega arith) (c .before .before .fill .ensures) (λ j h. refl)
+    part-patched _ _ (a .start) (a .count) ff ff (omega arith) (c .before .before .fill .ensures) (λ j h. refl)
 
 pub erase-spec : {M : Type 1} → statement M
 erase-spec =

@@ -33,9 +33,9 @@ returns : tie.Need-returns
 unfolding programmed
 returns c =
     let a = c .before .before .before .before .before .before .args in
-    let base : ℕ = a .a / 256 * 256 in
+    let base : ℕ = a .address / 256 * 256 in
     put-patched _ _ base 256 _ (omega arith) (c .before .before .program .ensures)
-    ∙ patched-same _ base 256 _ _ (λ j h. ap (λ (x : ℕ). cell (a .a % 256) (a .bytes .now) j x x) (mid-at (a .array .now) base 256 j h))
+    ∙ patched-same _ base 256 _ _ (λ j h. ap (λ (x : ℕ). cell (a .address % 256) (a .bytes .now) j x x) (mid-at (a .array .now) base 256 j h))
 
 pub program-at-spec : {M : Type 1} → statement M
 program-at-spec =

@@ -1,6 +1,5 @@
-use lib.ListN.{length}
+use lib.ListN.{length, drop-of-length-le}
 use Rattle.lists.proofs.Patched.{tail-is}
-use lib.ListN.{drop-of-length-le}
 use native.Mathlib.Omega.{arith}
 use mathlib.Core.Path.{_∙_, sym}
 use borrow.Author.Needs.{needs}

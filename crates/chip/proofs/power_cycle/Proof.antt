@@ -1,3 +1,5 @@
+use mathlib.Core.Path.{sym, ap, _∙_}
+use Rattle.rules.specs.declared.Refusal.{Refusal}
 use Rattle.laws.proofs.Answered.{event-served, event-refused}
 use Rattle.rules.specs.Events.{powerCycled}
 use Rattle.rules.specs.EventEntries.{powerCycleOf}
@@ -10,7 +12,7 @@ event-requires c κs = search needs
 
 returns : tie.Need-returns
 unfolding powerCycleOf
-returns c = rw (← c .before .event .ensures) (event-refused _ _ _ (c .if1 .taken))
+returns c = event-refused _ _ powerCycled _ (c .before .event .ensures) (c .if1 .taken)
 
 regs-of-requires : tie.Need-regs-of-requires
 regs-of-requires c κs = search needs
@@ -25,8 +27,7 @@ returns-2 : tie.Need-returns-2
 unfolding powerCycleOf
 returns-2 c =
     let d = c .before .before .before in
-    rw (← d .before .event .ensures)
-    (event-served _ _ _ powerCycled _ _ (d .if1 .left) (c .before .before .regs-of .ensures) (c .before .power-cycled .ensures) (c .kept-of .ensures))
+    event-served _ _ _ powerCycled _ _ (sym (ap (λ (z : Refusal). z .number) (d .before .event .ensures)) ∙ d .if1 .left) (c .before .before .regs-of .ensures) (c .before .power-cycled .ensures) (c .kept-of .ensures)
 
 pub power-cycle-spec : {M : Type 1} → statement M
 power-cycle-spec =

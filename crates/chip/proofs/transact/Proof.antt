@@ -1,11 +1,10 @@
 use Rattle.rules.specs.Verdict.{verdictOf}
-use Rattle.rules.specs.Transact.{isHigh}
+use Rattle.rules.specs.Transact.{isHigh, transactTold, transactSeen}
 use Rattle.laws.proofs.Sound.{part-sound, size-some}
 use Rattle.lists.proofs.Lent.{put-front, front-long}
 use Rattle.rules.specs.declared.Regs.{Regs}
 use Rattle.laws.proofs.Answered.{transact-served, transact-refused, out-after}
 use Rattle.laws.proofs.Accepted.{Taken, taken}
-use Rattle.rules.specs.Transact.{transactTold, transactSeen}
 use Rattle.rules.specs.Transaction.{outAt, regsAfter}
 use Rattle.rules.specs.Status.{keptOf}
 use Rattle.rules.specs.Parts.{partOf}
@@ -21,7 +20,7 @@ use Rattle.chip.proofs.transact.Statement.{statement}
 use Rattle.chip.proofs.transact.Tie as tie
 
 -- nothing is refused
-ok : (c : tie.Else1) → let a = c .before .before .before .before .before .args in Taken (a .part) (length (a .array .now)) (a .kept) (length (a .b .now)) (a .x) (length (a .out .now)) (a .m)
+ok : (c : tie.Else1) → let a = c .before .before .before .before .before .args in Taken (a .part) (length (a .array .now)) (a .kept) (length (a .bytes .now)) (a .leftover) (length (a .out .now)) (a .meter)
 ok c = taken _ _ _ _ _ _ _ (sym (ap (λ z. z .number) (c .before .transaction .ensures)) ∙ c .if1 .left)
 
 transaction-requires : tie.Need-transaction-requires
@@ -55,7 +54,7 @@ show-requires c κs =
     let h = ok (c .before .before .before .before .before .before .before .before .before) in
     let p = partOf (s .part) in
     let l : length (c .before .before .before .before .before .before .turn .last .1 .1 .1 .0) ≡ length (s .array .now) = c .before .before .before .before .before .before .turn .kept .1 .1 .1 .0 in
-    (l ∙ h .begun .long, omega (arith, front-long (s .out .now) (length (s .b .now)) (h .fits), h .short, size-some p (part-sound (s .part))))
+    (l ∙ h .begun .long, omega (arith, front-long (s .out .now) (length (s .bytes .now)) (h .fits), h .short, size-some p (part-sound (s .part))))
 
 kept-of-requires : tie.Need-kept-of-requires
 kept-of-requires c κs = search needs
@@ -71,8 +70,8 @@ returns-2 c =
     let s = c .before .before .before .before .before .before .before .before .before .before .before .before .before .before .before .before .before .before .args in
     let h = ok (c .before .before .before .before .before .before .before .before .before .before .before .before .before) in
     let p = partOf (s .part) in
-    let n = length (s .b .now) in
-    let b = s .b .now in
+    let n = length (s .bytes .now) in
+    let b = s .bytes .now in
     let t = c .before .before .before .before .before .before .before .before .before .before .turn in
     let v = t .result .verdict in
     let r = c .before .before .before .before .before .before .before .before .before .before .before .before .regs-of in
@@ -83,11 +82,11 @@ returns-2 c =
     ∙ out-after p (r .result) (s .array .now) b n v
     ∙ ap (λ (w : Regs). tabulate n (outAt p w (s .array .now) b v)) (r .ensures) in
     let regs = c .kept-of .ensures ∙ ap keptOf (t .ensures .1 ∙ ap (λ (w : Regs). regsAfter p w b v) (r .ensures)) in
-    (λ i. transactSeen (transactTold (s .kept) (s .m) (Stepped (record { verdict = v; regs = regs i; meter = t .ensures .2 i }))) (t .ensures .3 i)
+    (λ i. transactSeen (transactTold (s .kept) (s .meter) (Stepped (record { verdict = v; regs = regs i; meter = t .ensures .2 i }))) (t .ensures .3 i)
     ((put-front o (c .before .before .before .show .last .0) n (h .fits) ∙ ap (λ (w : List ℕ). w ++ drop n o) shown) i))
-    ∙ transact-served (s .part) (s .kept) (s .m) (s .array .now) o b (s .x) (s .wp) v
+    ∙ transact-served (s .part) (s .kept) (s .meter) (s .array .now) o b (s .leftover) (s .wp) v
     (sym (ap (λ z. z .number) (c .before .before .before .before .before .before .before .before .before .before .before .before .before .before .transaction .ensures)) ∙ c .before .before .before .before .before .before .before .before .before .before .before .before .before .if1 .left)
-    (t .ensures .0 ∙ ap (λ (w : Regs). verdictOf p w b (s .x) (isHigh (s .wp))) (r .ensures))
+    (t .ensures .0 ∙ ap (λ (w : Regs). verdictOf p w b (s .leftover) (isHigh (s .wp))) (r .ensures))
 
 pub transact-spec : {M : Type 1} → statement M
 transact-spec =

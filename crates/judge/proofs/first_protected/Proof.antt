@@ -23,18 +23,18 @@ returns c =
     let i = c .before .before .if1 in
     let a = c .before .before .before .before .before .args in
     let p = partOf (a .part) in
-    let f : max (a .a) (p .lo (a .s)) ≡ i .from = ⊎-elim (λ w. omega arith) (λ w. omega arith) (i .came) in
-    let e : c .before .if2 .end ≡ min (a .a + a .n) (p .hi (a .s)) = ⊎-elim (λ w. omega arith) (λ w. omega arith) (c .before .if2 .came) in
-    sym (first-protected p (a .s) (a .a) (a .n) ∙ overlap-yes _ _ _ _ _ f (omega arith))
+    let f : max (a .start) (p .lo (a .setting)) ≡ i .from = ⊎-elim (λ w. omega arith) (λ w. omega arith) (i .came) in
+    let e : c .before .if2 .end ≡ min (a .start + a .count) (p .hi (a .setting)) = ⊎-elim (λ w. omega arith) (λ w. omega arith) (c .before .if2 .came) in
+    sym (first-protected p (a .setting) (a .start) (a .count) ∙ overlap-yes _ _ _ _ _ f (omega arith))
 
 returns-2 : tie.Need-returns-2
 returns-2 c =
     let i = c .before .before .if1 in
     let a = c .before .before .before .before .before .args in
     let p = partOf (a .part) in
-    let f : max (a .a) (p .lo (a .s)) ≡ i .from = ⊎-elim (λ w. omega arith) (λ w. omega arith) (i .came) in
-    let e : c .before .if2 .end ≡ min (a .a + a .n) (p .hi (a .s)) = ⊎-elim (λ w. omega arith) (λ w. omega arith) (c .before .if2 .came) in
-    sym (first-protected p (a .s) (a .a) (a .n) ∙ overlap-no (p .lo (a .s)) (p .hi (a .s)) (a .a) (a .n) (omega arith))
+    let f : max (a .start) (p .lo (a .setting)) ≡ i .from = ⊎-elim (λ w. omega arith) (λ w. omega arith) (i .came) in
+    let e : c .before .if2 .end ≡ min (a .start + a .count) (p .hi (a .setting)) = ⊎-elim (λ w. omega arith) (λ w. omega arith) (c .before .if2 .came) in
+    sym (first-protected p (a .setting) (a .start) (a .count) ∙ overlap-no (p .lo (a .setting)) (p .hi (a .setting)) (a .start) (a .count) (omega arith))
 
 pub first-protected-spec : {M : Type 1} → statement M
 first-protected-spec =

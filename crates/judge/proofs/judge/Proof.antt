@@ -1,4 +1,4 @@
-use Rattle.rules.specs.Verdict.{judgeOf}
+use Rattle.laws.specs.Judged.{judgeOf}
 use Rattle.rules.specs.Kinds.{ofKnown}
 use Rattle.lists.specs.Choice.{if_then_else_}
 use borrow.Author.Tests.{ne-eqb}

@@ -1,5 +1,5 @@
 use Rattle.laws.proofs.NoWrite.{no-write}
-use Rattle.rules.specs.Verdict.{kindVerdict}
+use Rattle.laws.specs.Judged.{kindVerdict}
 use Rattle.rules.specs.Kinds.{ofWrite}
 use Rattle.lists.specs.Choice.{if_then_else_}
 use mathlib.Core.Path.{sym}

@@ -1,5 +1,5 @@
 use Rattle.laws.proofs.Sound.{part-sound, reach-end, size-small}
-use Rattle.rules.specs.Verdict.{writeVerdict}
+use Rattle.laws.specs.Judged.{writeVerdict}
 use Rattle.rules.specs.Parts.{partOf}
 use Rattle.lists.specs.Choice.{if_then_else_}
 use native.Mathlib.Omega.{arith}

@@ -1,4 +1,5 @@
-use Rattle.rules.specs.Verdict.{verdictOf}
+use Rattle.rules.specs.Parts.{partOf}
+use Rattle.laws.proofs.Judged.{verdict-judged}
 use borrow.Author.Needs.{needs}
 use Rattle.judge.proofs.verdict.Statement.{statement}
 use Rattle.judge.proofs.verdict.Tie as tie
@@ -16,8 +17,9 @@ judge-requires : tie.Need-judge-requires
 judge-requires c κs = search needs
 
 returns : tie.Need-returns
-unfolding verdictOf
-returns c = rw (← c .before .before .before .byte-at .ensures, ← c .before .address-of .ensures .0, ← c .before .before .command-of .ensures) (c .judge .ensures)
+returns c =
+    let s = c .before .before .before .before .before .args in
+    rw (verdict-judged (partOf (s .part)) (s .regs) (s .bytes .now) (s .leftover) (s .high), ← c .before .before .before .byte-at .ensures, ← c .before .address-of .ensures .0, ← c .before .before .command-of .ensures) (c .judge .ensures)
 
 pub verdict-spec : {M : Type 1} → statement M
 verdict-spec =

@@ -52,7 +52,8 @@ use denote.Triple.Table.{entered, cited}
 use denote.Triple.Walked.{says, needs, Stays, stay-none, stay-none-slice, walkOf, goes-none, goes-none-slice, Walks, ends-at, walked, walk-meets}
 use denote.Exit.{yes}
 use Rattle.rules.specs.declared.AtPlace.{AtPlace}
-use Rattle.rules.specs.Tape.{records, readTold, readOf}
+use Rattle.rules.specs.Tape.{records}
+use Rattle.rules.specs.Reading.{readTold, readOf}
 use Rattle.rules.proofs.AtPlace as P
 use Rattle.rules.proofs.AtPlace.Laws as P′
 use Rattle.tape.specs.Moves.{told, found, after}

@@ -2,8 +2,8 @@ use borrow.Author.Needs.{needs}
 use Rattle.output.proofs.show.Statement.{statement}
 use Rattle.output.proofs.show.Tie as tie
 
-enum-known-v : tie.Need-enum-known-v
-enum-known-v c = search needs
+enum-known-verdict : tie.Need-enum-known-verdict
+enum-known-verdict c = search needs
 
 enum-told : tie.Need-enum-told
 enum-told c = search needs
@@ -24,13 +24,13 @@ same-length-2 : tie.Need-same-length-2
 same-length-2 c = search needs
 
 returns-2 : tie.Need-returns-2
-returns-2 c = rw (c .before .before .before .before .before .v .given .1) (c .before .before .drive .ensures)
+returns-2 c = rw (c .before .before .before .before .before .verdict .given .1) (c .before .before .drive .ensures)
 
 pub show-spec : {M : Type 1} → statement M
 show-spec =
     tie.close
     (tie.spec
-    enum-known-v
+    enum-known-verdict
     enum-told
     fill-requires
     same-length

@@ -25,7 +25,7 @@ loop-holds c =
     let a = c .before .before .args in
     let h = c .before .before .pre in
     let r = h .2 in
-    let e : a .n - 0 ≡ a .n = omega arith in
+    let e : a .count - 0 ≡ a .count = omega arith in
     (omega arith, refl, omega arith, ap (λ (k : ℕ). play (partOf (a .part)) (recsFrom (a .tape .now) 0 k) (state (a .start .regs) (a .array .now) (a .start .meter))) e)
 
 play-at-requires : tie.Need-play-at-requires Inv-loop μ-loop
@@ -47,11 +47,11 @@ loop-again c =
     let l = c .before .before .before .before .before .loop in
     let e = c .before .before .play-at .ensures in
     let now = state (l .s .regs) (l .array) (l .s .meter) in
-    let room : Room (l .s .meter) (suc (a .n - (l .p + 1))) = let r = l .inv .2 in omega arith in (
+    let room : Room (l .s .meter) (suc (a .count - (l .p + 1))) = let r = l .inv .2 in omega arith in (
       omega arith,
       c .before .before .play-at .kept .1 .1 .0 ∙ l .inv .1,
-      subst (λ (m : Meter). Room m (a .n - (l .p + 1))) (sym (ap (λ (s : State). s .meter) e)) (record-room (partOf (a .part)) (recAt (a .tape .now) (l .p)) now _ room),
-      play-more (partOf (a .part)) (a .tape .now) (l .p) (a .n) now _ (omega arith) e ∙ l .inv .3,
+      subst (λ (m : Meter). Room m (a .count - (l .p + 1))) (sym (ap (λ (s : State). s .meter) e)) (record-room (partOf (a .part)) (recAt (a .tape .now) (l .p)) now _ room),
+      play-more (partOf (a .part)) (a .tape .now) (l .p) (a .count) now _ (omega arith) e ∙ l .inv .3,
     )
 
 same-length : tie.Need-same-length Inv-loop μ-loop
@@ -61,7 +61,7 @@ returns : tie.Need-returns Inv-loop μ-loop
 returns c =
     let a = c .before .before .before .before .args in
     let l = c .before .loop in
-    sym (play-over (partOf (a .part)) (a .tape .now) (l .p) (a .n) _ (omega arith)) ∙ l .inv .3
+    sym (play-over (partOf (a .part)) (a .tape .now) (l .p) (a .count) _ (omega arith)) ∙ l .inv .3
 
 pub play-first-spec : {M : Type 1} → statement M
 play-first-spec =

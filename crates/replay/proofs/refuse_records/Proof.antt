@@ -22,19 +22,19 @@ record-count-requires c κs = search needs
 has-room-requires : tie.Need-has-room-requires
 has-room-requires c κs = search needs
 
-refuse-requires : tie.Need-refuse-requires
-refuse-requires c κs = search needs
+refusal-requires : tie.Need-refusal-requires
+refusal-requires c κs = search needs
 
 returns-2 : tie.Need-returns-2
 unfolding recordsRefusal _orElse_ if_then_else_
-returns-2 c = rw (← c .before .before .before .before .before .before .first-bad .ensures, ← c .before .before .before .before .before .bad-record .ensures, c .before .before .before .before .if1 .left, ← c .before .before .before .record-count .ensures, ← c .before .before .has-room .ensures, c .before .if2 .taken) (c .refuse .ensures)
+returns-2 c = rw (← c .before .before .before .before .before .before .first-bad .ensures, ← c .before .before .before .before .before .bad-record .ensures, c .before .before .before .before .if1 .left, ← c .before .before .before .record-count .ensures, ← c .before .before .has-room .ensures, c .before .if2 .taken) (c .refusal .ensures)
 
-refuse-requires-2 : tie.Need-refuse-requires-2
-refuse-requires-2 c κs = search needs
+refusal-requires-2 : tie.Need-refusal-requires-2
+refusal-requires-2 c κs = search needs
 
 returns-3 : tie.Need-returns-3
 unfolding recordsRefusal _orElse_ if_then_else_
-returns-3 c = rw (← c .before .before .before .before .before .before .first-bad .ensures, ← c .before .before .before .before .before .bad-record .ensures, c .before .before .before .before .if1 .left, ← c .before .before .before .record-count .ensures, ← c .before .before .has-room .ensures, c .before .if2 .left) (c .refuse2 .ensures)
+returns-3 c = rw (← c .before .before .before .before .before .before .first-bad .ensures, ← c .before .before .before .before .before .bad-record .ensures, c .before .before .before .before .if1 .left, ← c .before .before .before .record-count .ensures, ← c .before .before .has-room .ensures, c .before .if2 .left) (c .refusal2 .ensures)
 
 pub refuse-records-spec : {M : Type 1} → statement M
 refuse-records-spec =
@@ -45,7 +45,7 @@ refuse-records-spec =
     returns
     record-count-requires
     has-room-requires
-    refuse-requires
+    refusal-requires
     returns-2
-    refuse-requires-2
+    refusal-requires-2
     returns-3)

@@ -18,7 +18,7 @@ returns : tie.Need-returns
 unfolding replayOf
 returns c =
     let a = c .before .before .before .before .before .before .before .args in
-    c .before .before .replay-first .ensures ∙ ap (λ (k : ℕ). replayFirstOf (a .part) (a .kept) (a .m) (a .array .now) (a .tape .now) k) (c .before .before .before .record-count .ensures)
+    c .before .before .replay-first .ensures ∙ ap (λ (k : ℕ). replayFirstOf (a .part) (a .kept) (a .meter) (a .array .now) (a .tape .now) k) (c .before .before .before .record-count .ensures)
 
 pub replay-spec : {M : Type 1} → statement M
 replay-spec = tie.close (tie.spec record-count-requires replay-first-requires same-length returns)

@@ -17,7 +17,7 @@ use Rattle.replay.proofs.replay_first.Statement.{statement}
 use Rattle.replay.proofs.replay_first.Tie as tie
 
 -- nothing is refused
-ok : (c : tie.Else1) → let a = c .before .before .before .before .args in Checked (a .part) (length (a .array .now)) (a .m) (a .tape .now)
+ok : (c : tie.Else1) → let a = c .before .before .before .before .args in Checked (a .part) (length (a .array .now)) (a .meter) (a .tape .now)
 ok c = checked _ _ _ _ _ (sym (ap (λ z. z .number) (c .before .refusal-of .ensures)) ∙ c .if1 .left)
 
 refusal-of-requires : tie.Need-refusal-of-requires
@@ -40,8 +40,8 @@ play-first-requires c κs =
     let a = c .before .before .before .before .before .before .before .before .args in
     let h = ok (c .before .before .before .before) in
     let n = c .before .before .lesser .ensures ∙ ap (λ (w : ℕ). min (a .k) w) (c .before .before .before .record-count .ensures) in
-    let f = fewer (a .part) (length (a .array .now)) (a .m) (a .tape .now) (a .k) h in
-    (h .long, mathlib.Core.Path.subst (λ (w : ℕ). Playable (a .tape .now) w) (sym n) (f .0), mathlib.Core.Path.subst (λ (w : ℕ). Room (a .m) w) (sym n) (f .1))
+    let f = fewer (a .part) (length (a .array .now)) (a .meter) (a .tape .now) (a .k) h in
+    (h .long, mathlib.Core.Path.subst (λ (w : ℕ). Playable (a .tape .now) w) (sym n) (f .0), mathlib.Core.Path.subst (λ (w : ℕ). Room (a .meter) w) (sym n) (f .1))
 
 kept-of-requires : tie.Need-kept-of-requires
 kept-of-requires c κs = search needs
@@ -56,11 +56,11 @@ returns-2 c =
     let s = c .before .before .before .before .before .play-first in
     let n = c .before .before .before .before .before .before .before .before .lesser .ensures ∙ ap (λ (w : ℕ). min (a .k) w) (c .before .before .before .before .before .before .before .before .before .record-count .ensures) in
     let e = s .ensures
-    ∙ ap (λ (w : ℕ). play p (recsFrom (a .tape .now) 0 w) (state (c .before .before .before .before .before .before .before .regs-of .result) (a .array .now) (a .m))) n
-    ∙ ap (λ (es : List Rec). play p es (state (c .before .before .before .before .before .before .before .regs-of .result) (a .array .now) (a .m))) (sym (take-recs (a .tape .now) 0 (a .k) (records (a .tape .now))))
-    ∙ ap (λ (r : Regs). play p (lib.ListN.take (a .k) (recsFrom (a .tape .now) 0 (records (a .tape .now)))) (state r (a .array .now) (a .m))) (c .before .before .before .before .before .before .before .regs-of .ensures) in
-    (λ i. replaySeen (replayTold (a .kept) (a .m) (Ended (record { regs = c .kept-of .ensures i; meter = s .result .meter }))) (s .last .1 .1 .0))
-    ∙ replay-served (a .part) (a .kept) (a .m) (a .array .now) (a .tape .now) (a .k) (state (s .result .regs) (s .last .1 .1 .0) (s .result .meter))
+    ∙ ap (λ (w : ℕ). play p (recsFrom (a .tape .now) 0 w) (state (c .before .before .before .before .before .before .before .regs-of .result) (a .array .now) (a .meter))) n
+    ∙ ap (λ (es : List Rec). play p es (state (c .before .before .before .before .before .before .before .regs-of .result) (a .array .now) (a .meter))) (sym (take-recs (a .tape .now) 0 (a .k) (records (a .tape .now))))
+    ∙ ap (λ (r : Regs). play p (lib.ListN.take (a .k) (recsFrom (a .tape .now) 0 (records (a .tape .now)))) (state r (a .array .now) (a .meter))) (c .before .before .before .before .before .before .before .regs-of .ensures) in
+    (λ i. replaySeen (replayTold (a .kept) (a .meter) (Ended (record { regs = c .kept-of .ensures i; meter = s .result .meter }))) (s .last .1 .1 .0))
+    ∙ replay-served (a .part) (a .kept) (a .meter) (a .array .now) (a .tape .now) (a .k) (state (s .result .regs) (s .last .1 .1 .0) (s .result .meter))
     (sym (ap (λ z. z .number) (c .before .before .before .before .before .before .before .before .before .before .before .refusal-of .ensures)) ∙ c .before .before .before .before .before .before .before .before .before .before .if1 .left) e
 
 pub replay-first-spec : {M : Type 1} → statement M

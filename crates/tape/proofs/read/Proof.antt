@@ -44,7 +44,7 @@ use denote.Triple.Entry.{Vals, onEntry}
 use denote.Triple.Spec.{Meets, tripleOf}
 use denote.Triple.Table.{entered, cited}
 use denote.Triple.Walked.{says, Stays, stay-ref, walkOf, goes-ref, Walks, ends-at, walked, walk-meets}
-use Rattle.rules.specs.Tape.{readTold, readOf}
+use Rattle.rules.specs.Reading.{readTold, readOf}
 use Rattle.rules.proofs.AtPlace as P
 use Rattle.rules.proofs.AtPlace.Laws as P′
 use Rattle.tape.specs.declared.Reader.{Reader}

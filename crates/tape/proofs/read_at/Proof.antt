@@ -3,7 +3,8 @@ use Prim.Native.Nat.{_≤_, _<_}
 use native.Mathlib.Omega.{arith}
 use borrow.Author.Tests.{le-leb, lt-leb, not-false}
 use Rattle.lists.specs.Choice.{if_then_else_}
-use Rattle.rules.specs.Tape.{records, readAt, readTold, readOf}
+use Rattle.rules.specs.Tape.{records}
+use Rattle.rules.specs.Reading.{readAt, readTold, readOf}
 use Rattle.tape.proofs.Said.{read-said}
 use borrow.Author.Needs.{needs}
 use Rattle.tape.proofs.read_at.Statement.{statement}

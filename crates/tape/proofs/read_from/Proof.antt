@@ -47,7 +47,7 @@ use denote.Triple.Walked.{says, Stays, stay-none, stay-none-slice, walkOf, goes-
 use denote.Exit.{yes}
 use denote.Triple.Clauses.{ensured, lasts}
 use Rattle.rules.specs.declared.AtPlace.{AtPlace}
-use Rattle.rules.specs.Tape.{readTold, readOf}
+use Rattle.rules.specs.Reading.{readTold, readOf}
 use Rattle.rules.proofs.AtPlace as P
 use Rattle.rules.proofs.AtPlace.Laws as P′
 use Rattle.tape.specs.Moves.{told, found, after}

@@ -1,6 +1,6 @@
 use mathlib.Core.Path.{ap, _∙_}
 use native.Mathlib.Omega.{arith}
-use Rattle.rules.specs.Tape.{ReadTold}
+use Rattle.rules.specs.Reading.{ReadTold}
 use Rattle.tape.proofs.Said.{read-is, next-told, next-fits}
 use borrow.Author.Needs.{needs}
 use Rattle.tape.proofs.reading_at.Statement.{statement}

@@ -1,6 +1,5 @@
 use borrow.Author.Count.{falls}
-use Rattle.translate.proofs.Pages.{lay-over}
-use Rattle.translate.proofs.Pages.{lay-turn}
+use Rattle.translate.proofs.Pages.{lay-over, lay-turn}
 use Rattle.translate.specs.Spliced.{spliced}
 use Rattle.rules.specs.Records.{pageRecs}
 use Rattle.rules.specs.Tape.{encode}

@@ -1,4 +1,4 @@
-use Rattle.rules.specs.CEntries.{tbEvent}
+use Rattle.tunebriar.specs.CEntries.{tbEvent}
 use mathlib.Core.Path.{ap, _∙_}
 use borrow.Author.Needs.{needs}
 use Rattle.tunebriar.proofs.tb_finish.Statement.{statement}

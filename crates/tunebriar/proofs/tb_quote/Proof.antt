@@ -1,4 +1,4 @@
-use Rattle.rules.specs.CEntries.{tbBill}
+use Rattle.tunebriar.specs.CEntries.{tbBill}
 use mathlib.Core.Path.{ap, _∙_}
 use borrow.Author.Needs.{needs}
 use Rattle.tunebriar.proofs.tb_quote.Statement.{statement}

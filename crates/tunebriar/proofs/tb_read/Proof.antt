@@ -1,8 +1,8 @@
 use mathlib.Core.Path.{sym, ap, _∙_}
 use native.Mathlib.Omega.{arith}
 use Rattle.rules.specs.declared.AtPlace.the-variants.{Transaction, Finish, PowerCycle, End, Fault}
-use Rattle.rules.specs.Tape.{readTold}
-use Rattle.rules.specs.CEntries.{tbRecord}
+use Rattle.rules.specs.Reading.{readTold}
+use Rattle.tunebriar.specs.CEntries.{tbRecord}
 use Rattle.tunebriar.proofs.Told.{sent-short, next-is}
 use borrow.Author.Needs.{needs}
 use Rattle.tunebriar.proofs.tb_read.Statement.{statement}
@@ -24,8 +24,8 @@ cast-t10 c =
 cast-t11 : tie.Need-cast-t11
 cast-t11 c = search needs
 
-level-requires : tie.Need-level-requires
-level-requires c κs = search needs
+flag-of-requires : tie.Need-flag-of-requires
+flag-of-requires c κs = search needs
 
 enum-told : tie.Need-enum-told
 enum-told c = search needs
@@ -60,7 +60,7 @@ returns c =
     let g = c .before .before .before .before .before .before .reading-at in
     let p = c .before .before .before .before .before .before .before .before .args .place in
     let s = f .given .0 .0 in
-    (λ i. record { kind = 0; number = 0; length = s .length; leftover = s .leftover; wp = c .level .ensures i; start = s .start; next = g .result .next })
+    (λ i. record { kind = 0; number = 0; length = s .length; leftover = s .leftover; wp = c .flag-of .ensures .0 i; start = s .start; next = g .result .next })
     ∙ ap tbRecord (next-is (readTold p (Transaction s)) _ (g .result .next) (ap (readTold p) (sym (f .given .1)) ∙ g .ensures .0) (g .ensures .1))
 
 returns-2 : tie.Need-returns-2
@@ -96,7 +96,7 @@ tb-read-spec =
     enum-known-found
     cast-t10
     cast-t11
-    level-requires
+    flag-of-requires
     enum-told
     plain-requires
     enum-told-2

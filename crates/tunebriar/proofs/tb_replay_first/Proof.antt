@@ -1,5 +1,5 @@
-use Rattle.rules.specs.CEntries.{tbPlayed, tbReplay}
-use Rattle.rules.specs.declared.TbAnswer.{TbAnswer}
+use Rattle.tunebriar.specs.CEntries.{tbPlayed, tbReplay}
+use Rattle.tunebriar.specs.declared.TbAnswer.{TbAnswer}
 use mathlib.Core.Path.{ap, _∙_}
 use borrow.Author.Needs.{needs}
 use Rattle.tunebriar.proofs.tb_replay_first.Statement.{statement}

@@ -1,5 +1,5 @@
-use Rattle.rules.specs.CEntries.{tbTranslated, tbTranslate}
-use Rattle.rules.specs.declared.TbTape.{TbTape}
+use Rattle.tunebriar.specs.CEntries.{tbTranslated, tbTranslate}
+use Rattle.tunebriar.specs.declared.TbTape.{TbTape}
 use mathlib.Core.Path.{ap, _∙_}
 use borrow.Author.Needs.{needs}
 use Rattle.tunebriar.proofs.tb_translate.Statement.{statement}

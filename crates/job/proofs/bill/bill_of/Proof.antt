@@ -1,7 +1,7 @@
 use Rattle.job.proofs.Bills.{none-upto, plus-upto, bill-start, bill-more, bill-end}
 use Rattle.job.specs.Counted.{Upto}
 use Rattle.rules.specs.Job.{stepsFrom}
-use Rattle.rules.specs.Records.{_plus_, billOf}
+use Rattle.rules.specs.Bill.{_plus_, billOf}
 use mathlib.Core.Path.{_≡_, sym, _∙_}
 use Prim.Native.Nat.{_-_, _≤_}
 use native.Mathlib.Omega.{arith}

@@ -1,6 +1,7 @@
 use Rattle.laws.proofs.Inside.{step-end}
 use Rattle.laws.proofs.Sound.{part-sound, size-small}
 use Rattle.rules.specs.Parts.{partOf}
+use Rattle.rules.specs.Protection.{someProtected}
 use Rattle.rules.specs.JobRefusals.{shielded}
 use native.Mathlib.Omega.{arith}
 use borrow.Author.Needs.{needs}
@@ -27,11 +28,11 @@ enum-told-2 : tie.Need-enum-told-2
 enum-told-2 c = search needs
 
 returns : tie.Need-returns
-unfolding shielded
+unfolding shielded someProtected
 returns c = let k = c .before .before in rw (← k .before .before .step-start .ensures, ← k .before .step-reach .ensures, ← k .first-protected .ensures, c .enum-told .given .1)
 
 returns-2 : tie.Need-returns-2
-unfolding shielded
+unfolding shielded someProtected
 returns-2 c = let k = c .before .before in rw (← k .before .before .step-start .ensures, ← k .before .step-reach .ensures, ← k .first-protected .ensures, c .enum-told2 .given .1)
 
 pub is-shielded-spec : {M : Type 1} → statement M

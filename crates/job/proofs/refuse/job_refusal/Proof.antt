@@ -10,29 +10,29 @@ use Rattle.job.proofs.refuse.job_refusal.Tie as tie
 is-part-requires : tie.Need-is-part-requires
 is-part-requires c κs = search needs
 
-refuse-requires : tie.Need-refuse-requires
-refuse-requires c κs = search needs
+refusal-requires : tie.Need-refusal-requires
+refusal-requires c κs = search needs
 
 returns : tie.Need-returns
 unfolding jobRefusal if_then_else_
-returns c = rw (← c .before .before .is-part .ensures, c .before .if1 .taken) (c .refuse .ensures)
+returns c = rw (← c .before .before .is-part .ensures, c .before .if1 .taken) (c .refusal .ensures)
 
 is-unfit-requires : tie.Need-is-unfit-requires
 is-unfit-requires c κs = search needs
 
-refuse-requires-2 : tie.Need-refuse-requires-2
-refuse-requires-2 c κs = search needs
+refusal-requires-2 : tie.Need-refusal-requires-2
+refusal-requires-2 c κs = search needs
 
 returns-2 : tie.Need-returns-2
 unfolding jobRefusal if_then_else_
-returns-2 c = rw (← c .before .before .before .before .is-part .ensures, c .before .before .before .if1 .left, ← c .before .before .is-unfit .ensures, c .before .if2 .taken) (c .refuse2 .ensures)
+returns-2 c = rw (← c .before .before .before .before .is-part .ensures, c .before .before .before .if1 .left, ← c .before .before .is-unfit .ensures, c .before .if2 .taken) (c .refusal2 .ensures)
 
-refuse-requires-3 : tie.Need-refuse-requires-3
-refuse-requires-3 c κs = search needs
+refusal-requires-3 : tie.Need-refusal-requires-3
+refusal-requires-3 c κs = search needs
 
 returns-3 : tie.Need-returns-3
 unfolding jobRefusal if_then_else_
-returns-3 c = rw (← c .before .before .before .before .before .is-part .ensures, c .before .before .before .before .if1 .left, ← c .before .before .before .is-unfit .ensures, c .before .before .if2 .left, lt-ltb _ _ (c .before .if3 .taken)) (c .refuse3 .ensures)
+returns-3 c = rw (← c .before .before .before .before .before .is-part .ensures, c .before .before .before .before .if1 .left, ← c .before .before .before .is-unfit .ensures, c .before .before .if2 .left, lt-ltb _ _ (c .before .if3 .taken)) (c .refusal3 .ensures)
 
 cast-steps-refusal : tie.Need-cast-steps-refusal
 cast-steps-refusal c = search needs
@@ -49,12 +49,12 @@ job-refusal-spec =
     tie.close
     (tie.spec
     is-part-requires
-    refuse-requires
+    refusal-requires
     returns
     is-unfit-requires
-    refuse-requires-2
+    refusal-requires-2
     returns-2
-    refuse-requires-3
+    refusal-requires-3
     returns-3
     cast-steps-refusal
     steps-refusal-requires

@@ -23,10 +23,15 @@ step-at-requires c κs = search needs
 decoded-number-requires : tie.Need-decoded-number-requires Inv-loop μ-loop
 decoded-number-requires c κs = search needs
 
+refusal-at-requires : tie.Need-refusal-at-requires Inv-loop μ-loop
+refusal-at-requires c κs = search needs
+
 returns : tie.Need-returns Inv-loop μ-loop
 returns c =
-    let l = c .before .before .before .before .loop in
-    sym (steps-stop _ _ _ (l .setting) (l .i) _ _ _ (omega arith) (c .before .before .step-at .ensures) (c .before .decoded-number .ensures) (c .if1 .taken)) ∙ l .inv .1
+    let l = c .before .before .before .before .before .loop in
+    c .refusal-at .ensures
+    ∙ sym (steps-stop _ _ _ (l .setting) (l .i) _ _ _ (omega arith) (c .before .before .before .step-at .ensures) (c .before .before .decoded-number .ensures) (c .before .if1 .taken))
+    ∙ l .inv .1
 
 setting-after-requires : tie.Need-setting-after-requires Inv-loop μ-loop
 setting-after-requires c κs = search needs
@@ -44,11 +49,11 @@ loop-again c =
       sym (steps-go _ _ _ (l .setting) (l .i) _ _ _ _ (omega arith) (c .before .before .before .step-at .ensures) (c .before .before .decoded-number .ensures) (c .before .if1 .left) (c .setting-after .ensures)) ∙ l .inv .1,
     )
 
-refuse-requires : tie.Need-refuse-requires Inv-loop μ-loop
-refuse-requires c κs = search needs
+refusal-requires : tie.Need-refusal-requires Inv-loop μ-loop
+refusal-requires c κs = search needs
 
 returns-2 : tie.Need-returns-2 Inv-loop μ-loop
-returns-2 c = let l = c .before .before .loop in c .refuse .ensures ∙ sym (steps-end _ _ _ (l .setting) (l .i) _ (omega arith)) ∙ l .inv .1
+returns-2 c = let l = c .before .before .loop in c .refusal .ensures ∙ sym (steps-end _ _ _ (l .setting) (l .i) _ (omega arith)) ∙ l .inv .1
 
 pub steps-refusal-spec : {M : Type 1} → statement M
 steps-refusal-spec =
@@ -59,10 +64,11 @@ steps-refusal-spec =
     loop-holds
     step-at-requires
     decoded-number-requires
+    refusal-at-requires
     returns
     setting-after-requires
     add-i
     loop-less
     loop-again
-    refuse-requires
+    refusal-requires
     returns-2)

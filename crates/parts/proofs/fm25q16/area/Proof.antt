@@ -1,4 +1,4 @@
-use Prim.Native.Nat.{_%_}
+use Prim.Native.Nat.{_%_, ℕ, _≤_}
 use lib.ListN.{getD}
 use Rattle.laws.proofs.Sound.{fm-area-small}
 use Rattle.rules.specs.Fm25q16.{fmSec0, fmSec1, fmArea}
@@ -6,7 +6,6 @@ use Rattle.lists.specs.Choice.{if_then_else_}
 use borrow.Author.Tests.{ne-eqb}
 use native.Mathlib.Omega.{arith}
 use mathlib.Core.Path.{_≡_}
-use Prim.Native.Nat.{ℕ, _≤_}
 use borrow.Author.Needs.{needs}
 use Rattle.parts.proofs.fm25q16.area.Statement.{statement}
 use Rattle.parts.proofs.fm25q16.area.Tie as tie

@@ -19,7 +19,7 @@ returns-3 c = search needs
 returns-4 : tie.Need-returns-4
 returns-4 c =
     let r = c .match .rest in
-    let h : 3 ≤ c .before .args .j = omega (arith, r .0 .0 .1, r .0 .1, r .1) in
+    let h : 3 ≤ c .before .args .place = omega (arith, r .0 .0 .1, r .0 .1, r .1) in
     sym (List·getD-eq-default (0xF8 ∷ 0x32 ∷ 0x15 ∷ []) 255 h)
 
 pub jedec-spec : {M : Type 1} → statement M

@@ -2,16 +2,16 @@
 -- number, 0 or 10 to 16, is no refusal's, and the transaction's first byte gives the kind.
 use Prim.Native.Nat.{ℕ}
 use mathlib.Core.List.{List}
-use Rattle.rules.specs.declared.TbAnswer.{TbAnswer}
-use Rattle.rules.specs.declared.TbEvent.{TbEvent}
-use Rattle.rules.specs.declared.TbTape.{TbTape}
-use Rattle.rules.specs.declared.TbBill.{TbBill}
-use Rattle.rules.specs.declared.TbRecord.{TbRecord}
+use Rattle.tunebriar.specs.declared.TbAnswer.{TbAnswer}
+use Rattle.tunebriar.specs.declared.TbEvent.{TbEvent}
+use Rattle.tunebriar.specs.declared.TbTape.{TbTape}
+use Rattle.tunebriar.specs.declared.TbBill.{TbBill}
+use Rattle.tunebriar.specs.declared.TbRecord.{TbRecord}
 use Rattle.rules.specs.Transact.{AnswerTold, TransactSeen}
 use Rattle.rules.specs.EventEntries.{EventTold}
-use Rattle.rules.specs.Tape.{ReadTold}
+use Rattle.rules.specs.Reading.{ReadTold}
 use Rattle.rules.specs.Replay.{ReplaySeen}
 use Rattle.rules.specs.Translate.{TapeTold, TranslateSeen, BillTold}
 
 abbrev pub tbAnswer : AnswerTold → TbAnswer
 tbAnswer t = record { number = t .number; index = t .index; regs = t .regs; meter = t .meter }
