@@ -20,29 +20,30 @@ struct Handed {
     failed: bool,
 }
 
-// The only writer. It takes no bytes but those of the tape's listing that come after the first `done`; the tape is there for that alone.
-fn put(tape: &[u8], done: usize, bytes: &[u8]) -> Handed
-    requires { ⌜ Next (listingOf (now tape)) done (now bytes) ⌝ }
-    ensures { λ h. ⌜ (h .bytes ≡ done + length (now (bytes .entry))) × (h .more ≡ not (h .failed)) ⌝ }
+// The only writer. It takes no bytes but those of the tape's listing that come after the first `done`, and counts them; the tape is there for that alone.
+fn put(tape: &[u8], done: &mut usize, bytes: &[u8]) -> Handed
+    requires { ⌜ Next (listingOf (now tape)) (now done) (now bytes) ⌝ }
+    ensures { λ h. ⌜ (now (done .exit) ≡ now (done .entry) + length (now (bytes .entry))) × (h .bytes ≡ now (done .exit)) × (h .more ≡ not (h .failed)) ⌝ }
 {
+    *done = *done + bytes.len();
     let written = io::write_all(1, bytes);
     Handed {
-        bytes: done + bytes.len(),
+        bytes: *done,
         more: written,
         failed: !written,
     }
 }
 
 // The line of what the reader found at a place. Where it found the end there is none, and no more follows.
-fn tell(tape: &[u8], place: usize, found: AtPlace, done: usize) -> Handed
-    requires { ⌜ (readTold place found ≡ readOf (now tape) place) × Come (now tape) place done ⌝ }
-    ensures { λ h. ⌜ Gone (now (tape .entry)) place h ⌝ }
+fn tell(tape: &[u8], place: usize, found: AtPlace, done: &mut usize) -> Handed
+    requires { ⌜ (readTold place found ≡ readOf (now tape) place) × Come (now tape) place (now done) ⌝ }
+    ensures { λ h. ⌜ (h .bytes ≡ now (done .exit)) × Gone (now (tape .entry)) place h ⌝ }
 {
     let mut line = [0u8; RECORD_WIDTH];
     let n = lines::record_line(tape, place, found, &mut line);
     if n == 0 {
         return Handed {
-            bytes: done,
+            bytes: *done,
             more: false,
             failed: false,
         };
@@ -56,6 +57,7 @@ fn list_from(tape: &[u8], place: usize, done: usize) -> Handed
     ensures { λ h. ⌜ AllHanded (now (tape .entry)) h ⌝ }
 {
     let mut reader = Reader { bytes: tape, place };
+    let mut count = done;
     let mut handed = Handed {
         bytes: done,
         more: true,
@@ -64,7 +66,7 @@ fn list_from(tape: &[u8], place: usize, done: usize) -> Handed
     while handed.more {
         let at = reader.place;
         let found = tape::read(&mut reader);
-        handed = tell(tape, at, found, handed.bytes);
+        handed = tell(tape, at, found, &mut count);
     }
     handed
 }
@@ -78,7 +80,8 @@ fn list(tape: &[u8]) -> Handed
     if number != 0 {
         let mut line = [0u8; REFUSED_WIDTH];
         let n = lines::refused_line(number, fault.index, &mut line);
-        return put(tape, 0, &line[..n]);
+        let mut count = 0;
+        return put(tape, &mut count, &line[..n]);
     }
     list_from(tape, 0, 0)
 }

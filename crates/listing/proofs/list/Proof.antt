@@ -1,6 +1,6 @@
+use mathlib.Core.Path.{refl, _∙_}
 use native.Mathlib.Omega.{arith}
 use Rattle.rules.specs.Listing.{linesFrom}
-use mathlib.Core.Path.{refl}
 use Rattle.lines.proofs.Laid.{laid-within, laid-count, laid-text}
 use Rattle.listing.proofs.Next.{refusal-next, refusal-whole, no-fault}
 use borrow.Author.Needs.{needs}
@@ -17,20 +17,21 @@ refused-line-requires : tie.Need-refused-line-requires
 refused-line-requires c κs = search needs
 
 array-share-prefix-line : tie.Need-array-share-prefix-line
-array-share-prefix-line c = laid-within (c .before .refused-line .ensures)
+array-share-prefix-line c = laid-within (c .before .before .refused-line .ensures)
 
 slice-aggregate-put : tie.Need-slice-aggregate-put
-slice-aggregate-put c = laid-count (c .before .before .refused-line .ensures)
+slice-aggregate-put c = laid-count (c .before .before .before .refused-line .ensures)
 
 put-requires : tie.Need-put-requires
 put-requires c κs =
-    let f = c .before .before .before .before .before .fault-of in
-    refusal-next _ (f .result) _ (f .ensures) (omega (arith, c .before .before .before .before .if1 .taken)) (laid-text (c .before .before .refused-line .ensures))
+    let f = c .before .before .before .before .before .before .fault-of in
+    refusal-next _ (f .result) _ (f .ensures) (omega (arith, c .before .before .before .before .before .if1 .taken)) (laid-text (c .before .before .before .refused-line .ensures))
 
 returns : tie.Need-returns
 returns c =
-    let f = c .before .before .before .before .before .before .fault-of in
-    refusal-whole _ (f .result) _ (c .put .result) (f .ensures) (omega (arith, c .before .before .before .before .before .if1 .taken)) (laid-text (c .before .before .before .refused-line .ensures)) (c .put .ensures .0)
+    let f = c .before .before .before .before .before .before .before .fault-of in
+    refusal-whole _ (f .result) _ (c .put .result) (f .ensures) (omega (arith, c .before .before .before .before .before .before .if1 .taken)) (laid-text (c .before .before .before .before .refused-line .ensures))
+    (c .put .ensures .1 ∙ c .put .ensures .0)
 
 list-from-requires : tie.Need-list-from-requires
 unfolding linesFrom
