@@ -115,12 +115,12 @@ impl Folder {
 
     /// A state file with this status and these counts.
     pub fn state(&self, status: &str, awake: &str, counts: [u32; 4]) {
-        let [programs, erases, writes, ignored] = counts;
+        let [programs, erases, register_writes, ignored] = counts;
         self.write(
             "chip.state",
             format!(
                 "chip = FM25Q16\nstatus = {status}\nawake = {awake}\nprograms = {programs}\n\
-                 erases = {erases}\nregister-writes = {writes}\nignored = {ignored}\n"
+                 erases = {erases}\nregister-writes = {register_writes}\nignored = {ignored}\n"
             ),
         );
     }
