@@ -1,13 +1,250 @@
-//! The bill as html.
+//! The bill as one page to print: no script, and nothing from outside.
 
-use super::figures::Bill;
-use super::sums::{Fault, sums};
+use super::chart;
+use super::figures::{Bill, Play};
+use super::letters::escaped;
+use super::notes;
+use super::prices::Prices;
+use super::sums::{Cost, Fault, Line, Sums, sums};
+use crate::numbers::grouped;
+use crate::words;
+use std::fmt::Write;
+use tunebriar::Reason;
 
-/// The bill as html.
+/// The page; with `detail`, a line a play with its hash. It is well-formed XML
+/// behind its first line, so that it can be checked.
 ///
 /// # Errors
 ///
-/// Where it cannot be added up.
-pub fn render(bill: &Bill, _detail: bool) -> Result<String, Fault> {
-    sums(bill).map(|sums| sums.total.name.to_string())
+/// Where the bill cannot be added up.
+pub fn render(bill: &Bill, detail: bool) -> Result<String, Fault> {
+    let sums = sums(bill)?;
+    let prices = &bill.prices;
+    let mut page = head(bill);
+    page.push_str(&summary(bill, &sums));
+    page.push_str(&amounts(&sums, prices));
+    let _ = write!(
+        page,
+        "<h2>Commands by department</h2>\n<figure>\n{}</figure>\n",
+        chart::picture(bill, &sums)
+    );
+    if sums.total.figures.ignored.all() > 0 {
+        page.push_str(&ignored(&sums));
+    }
+    if sums.total.refused > 0 {
+        page.push_str(&refused(&sums));
+    }
+    if detail {
+        page.push_str(&plays(&sums, prices));
+    }
+    Ok(page + "</body>\n</html>\n")
+}
+
+fn head(bill: &Bill) -> String {
+    let title = escaped(&notes::title(bill));
+    format!(
+        "<!DOCTYPE html>\n<html lang=\"en\">\n<head>\n<meta charset=\"utf-8\"/>\n\
+         <meta name=\"viewport\" content=\"width=device-width\"/>\n<title>{title}</title>\n\
+         <style>\n{}</style>\n</head>\n<body>\n<h1>{title}</h1>\n",
+        include_str!("page.css")
+    )
+}
+
+/// Whether the month is closed, what it comes to, and the prices.
+fn summary(bill: &Bill, sums: &Sums) -> String {
+    let prices = &bill.prices;
+    let class = if bill.closed.is_some() {
+        "closed"
+    } else {
+        "open"
+    };
+    let mut text = format!(
+        "<p class=\"{class}\">The month is {}.</p>\n<p>Total <strong>{}</strong>. {}</p>\n",
+        escaped(&notes::state(bill)),
+        escaped(&prices.in_currency(sums.total.cost.amount)),
+        escaped(&notes::difference(sums, prices)),
+    );
+    let each = notes::prices(prices);
+    let heads = each.iter().map(|(name, _)| (*name).to_string());
+    let cells = each.iter().map(|(_, price)| price.clone());
+    let _ = writeln!(
+        text,
+        "<h2>Prices of one, in {}</h2>\n<table class=\"prices\">\n<thead>\n{}</thead>\n<tbody>\n{}\
+         </tbody>\n</table>",
+        escaped(&prices.currency),
+        row("", &heads.collect::<Vec<_>>(), "th", 0),
+        row("", &cells.collect::<Vec<_>>(), "td", 0),
+    );
+    text
+}
+
+/// A row of a table; the first so many cells are names, to the left.
+fn row(class: &str, cells: &[String], tag: &str, names: usize) -> String {
+    let mut text = match class {
+        "" => String::from("<tr>"),
+        _ => format!("<tr class=\"{class}\">"),
+    };
+    for (place, cell) in cells.iter().enumerate() {
+        let left = if place < names { " class=\"name\"" } else { "" };
+        let _ = write!(text, "<{tag}{left}>{}</{tag}>", escaped(cell));
+    }
+    text + "</tr>\n"
+}
+
+/// A table with its heads; names are the first so many columns.
+fn table(heads: &[String], rows: &str, names: usize) -> String {
+    let heads = row("", heads, "th", names);
+    format!("<table>\n<thead>\n{heads}</thead>\n{rows}</table>\n")
+}
+
+/// A line a department, and the total.
+fn amounts(sums: &Sums, prices: &Prices) -> String {
+    let currency = &prices.currency;
+    let (amount, sent) = (format!("amount {currency}"), format!("as sent {currency}"));
+    let heads = [
+        "department",
+        "boards",
+        "plays",
+        "programs",
+        "erases",
+        "register writes",
+        "ignored",
+        &amount,
+        &sent,
+    ];
+    let mut rows = String::from("<tbody>\n");
+    for line in &sums.lines {
+        rows.push_str(&row("", &amount_cells(line, prices), "td", 1));
+    }
+    let total = amount_cells(&sums.total, prices);
+    rows.push_str(&row("total", &total, "td", 1));
+    rows.push_str("</tbody>\n");
+    format!(
+        "<h2>Amounts</h2>\n{}<p class=\"note\">{}</p>\n<p class=\"note\">{}</p>\n",
+        table(&heads.map(str::to_string), &rows, 1),
+        escaped(&notes::rounding(prices)),
+        escaped(notes::SENT),
+    )
+}
+
+fn amount_cells(line: &Line, prices: &Prices) -> [String; 9] {
+    let figures = &line.figures;
+    [
+        line.name.to_string(),
+        grouped(line.boards),
+        grouped(line.played),
+        grouped(figures.programs),
+        grouped(figures.erases),
+        grouped(figures.register_writes),
+        grouped(figures.ignored.all()),
+        line.cost.amount.shown(prices.decimals),
+        line.cost.sent.shown(prices.decimals),
+    ]
+}
+
+/// What was ignored, by what was sent and by verdict; only where there is some.
+fn ignored(sums: &Sums) -> String {
+    let kinds = [
+        "department",
+        "programs",
+        "erases",
+        "register writes",
+        "others",
+    ];
+    let verdicts = Reason::ALL.map(|reason| format!("by {}", reason as u32));
+    let heads = kinds.iter().map(|kind| (*kind).to_string()).chain(verdicts);
+    let mut rows = String::from("<tbody>\n");
+    let some = |line: &&Line| line.figures.ignored.all() > 0;
+    for line in sums.lines.iter().filter(some) {
+        rows.push_str(&row("", &ignored_cells(line), "td", 1));
+    }
+    rows.push_str(&row("total", &ignored_cells(&sums.total), "td", 1));
+    rows.push_str("</tbody>\n");
+    let told = Reason::ALL.map(|reason| format!("{}: {}", reason as u32, words::reason(reason)));
+    format!(
+        "<h2>Ignored, by what was sent and by the chip's verdict</h2>\n{}<p class=\"note\">{}.</p>\n",
+        table(&heads.collect::<Vec<_>>(), &rows, 1),
+        escaped(&told.join("; ")),
+    )
+}
+
+fn ignored_cells(line: &Line) -> Vec<String> {
+    let ignored = &line.figures.ignored;
+    let kinds = [
+        ignored.programs,
+        ignored.erases,
+        ignored.register_writes,
+        ignored.others,
+    ];
+    let counts = kinds.into_iter().chain(ignored.by_verdict).map(grouped);
+    [line.name.to_string()].into_iter().chain(counts).collect()
+}
+
+fn refused(sums: &Sums) -> String {
+    let mut text = String::from("<h2>Refused, and not billed</h2>\n<ul>\n");
+    for (name, words) in notes::refusals(sums) {
+        let (name, words) = (escaped(name), escaped(&words));
+        let _ = writeln!(text, "<li><strong>{name}</strong>: {words}</li>");
+    }
+    text + "</ul>\n"
+}
+
+/// Every play, below the name of its department.
+fn plays(sums: &Sums, prices: &Prices) -> String {
+    let currency = &prices.currency;
+    let (amount, sent) = (format!("amount {currency}"), format!("as sent {currency}"));
+    let heads = [
+        "play",
+        "board",
+        "tape",
+        "records",
+        "programs",
+        "erases",
+        "register writes",
+        "ignored",
+        &amount,
+        &sent,
+    ];
+    let mut rows = String::new();
+    for line in sums.lines.iter().filter(|line| !line.plays.is_empty()) {
+        let name = escaped(line.name);
+        let _ = writeln!(
+            rows,
+            "<tbody><tr class=\"group\"><th colspan=\"10\">{name}</th></tr></tbody>"
+        );
+        for (play, cost) in &line.plays {
+            rows.push_str(&play_rows(play, *cost, prices));
+        }
+    }
+    format!(
+        "<h2>Plays, with exact amounts</h2>\n{}",
+        table(&heads.map(str::to_string), &rows, 3)
+    )
+}
+
+fn play_rows(play: &Play, cost: Cost, prices: &Prices) -> String {
+    let (figures, exact) = (&play.figures, prices.exact());
+    let cells = [
+        play.number.to_string(),
+        play.board.clone(),
+        play.tape.clone(),
+        grouped(play.records),
+        grouped(figures.programs),
+        grouped(figures.erases),
+        grouped(figures.register_writes),
+        grouped(figures.ignored.all()),
+        cost.amount.shown(exact),
+        cost.sent.shown(exact),
+    ];
+    let why = play.refusal.as_ref();
+    let why = why.map_or(String::new(), |why| format!("; not billed: {why}"));
+    format!(
+        "<tbody class=\"play\">\n{}<tr class=\"second\"><td></td><td colspan=\"9\">{}; {} bytes; \
+         sha256 <code>{}</code>{}</td></tr>\n</tbody>\n",
+        row("first", &cells, "td", 3),
+        escaped(&play.when),
+        grouped(play.bytes),
+        escaped(&play.sha256),
+        escaped(&why),
+    )
 }

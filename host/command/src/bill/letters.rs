@@ -60,7 +60,9 @@ pub fn pieces(text: &str, room: usize) -> Vec<String> {
         pieces.push(piece.trim_end().to_string());
         rest = after.trim_start();
     }
-    pieces.push(rest.to_string());
+    if !rest.is_empty() || pieces.is_empty() {
+        pieces.push(rest.to_string());
+    }
     pieces
 }
 

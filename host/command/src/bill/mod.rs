@@ -3,16 +3,20 @@
 pub mod chart;
 pub mod csv;
 pub mod figures;
+pub mod grid;
 pub mod html;
 pub mod json;
 pub mod ledger;
 pub mod letters;
 pub mod money;
 pub mod month;
+pub mod notes;
 pub mod old;
+pub mod pixels;
 pub mod price_text;
 pub mod prices;
 pub mod progress;
+pub mod series;
 pub mod sums;
 pub mod table;
 

@@ -4,6 +4,7 @@
 use super::figures::{Bill, Department, Figures, Ignored, Play};
 use super::money::Money;
 use super::prices::Prices;
+use std::cmp::Reverse;
 use std::fmt;
 
 /// A bill, added up.
@@ -92,15 +93,34 @@ pub fn sums(bill: &Bill) -> Result<Sums<'_>, Fault> {
     let lines = bill.departments.iter();
     let lines: Result<Vec<Line>, Fault> = lines.map(|one| line(one, &bill.prices)).collect();
     let lines = lines?;
-    let mut total = Line {
-        name: "total",
+    let total = together("total", &lines).ok_or_else(|| too_large("the total"))?;
+    Ok(Sums { lines, total })
+}
+
+/// Several lines as one; none where a sum is too large.
+fn together<'a, 'b>(
+    name: &'a str,
+    lines: impl IntoIterator<Item = &'b Line<'b>>,
+) -> Option<Line<'a>> {
+    let none = Line {
+        name,
         ..Line::default()
     };
-    for line in &lines {
-        let sum = total.plus(line);
-        total = sum.ok_or_else(|| too_large("the total"))?;
+    lines.into_iter().try_fold(none, |sum, line| sum.plus(line))
+}
+
+impl<'a> Sums<'a> {
+    /// The lines with the most commands, so many of them and the largest first,
+    /// and all the others as one line, where there are any.
+    #[must_use]
+    pub fn largest(&'a self, most: usize) -> (Vec<&'a Line<'a>>, Option<Line<'a>>) {
+        let mut lines: Vec<&Line> = self.lines.iter().collect();
+        lines.sort_by_key(|line| Reverse(line.commands()));
+        let others = lines.split_off(lines.len().min(most));
+        let rest = together("the rest", others.iter().copied());
+        let rest = rest.filter(|_| !others.is_empty());
+        (lines, rest)
     }
-    Ok(Sums { lines, total })
 }
 
 fn too_large(of: &str) -> Fault {
@@ -195,12 +215,14 @@ impl Line<'_> {
             amount: self.cost.amount.plus(other.cost.amount)?,
             sent: self.cost.sent.plus(other.cost.sent)?,
         };
+        let figures = self.figures.plus(&other.figures)?;
+        u64::try_from(figures.ignored.all()).ok()?;
         Some(Line {
             name: self.name,
             boards: self.boards.checked_add(other.boards)?,
             played: self.played.checked_add(other.played)?,
             refused: self.refused.checked_add(other.refused)?,
-            figures: self.figures.plus(&other.figures)?,
+            figures,
             cost,
             plays: Vec::new(),
         })
