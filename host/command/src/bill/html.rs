@@ -9,7 +9,11 @@ use super::sums::{Cost, Fault, Line, Sums, sums};
 use crate::numbers::grouped;
 use crate::words;
 use std::fmt::Write;
+use std::ops::Range;
 use tunebriar::Reason;
+
+/// Where a play has its board and its tape.
+const PLAY: Range<usize> = 1..3;
 
 /// The page; with `detail`, a line a play with its hash. It is well-formed XML
 /// behind its first line, so that it can be checked.
@@ -22,12 +26,9 @@ pub fn render(bill: &Bill, detail: bool) -> Result<String, Fault> {
     let prices = &bill.prices;
     let mut page = head(bill);
     page.push_str(&summary(bill, &sums));
+    let picture = chart::picture(bill, &sums);
+    let _ = write!(page, "<figure>\n{picture}</figure>\n");
     page.push_str(&amounts(&sums, prices));
-    let _ = write!(
-        page,
-        "<h2>Commands by department</h2>\n<figure>\n{}</figure>\n",
-        chart::picture(bill, &sums)
-    );
     if sums.total.figures.ignored.all() > 0 {
         page.push_str(&ignored(&sums));
     }
@@ -72,27 +73,30 @@ fn summary(bill: &Bill, sums: &Sums) -> String {
         "<h2>Prices of one, in {}</h2>\n<table class=\"prices\">\n<thead>\n{}</thead>\n<tbody>\n{}\
          </tbody>\n</table>",
         escaped(&prices.currency),
-        row("", &heads.collect::<Vec<_>>(), "th", 0),
-        row("", &cells.collect::<Vec<_>>(), "td", 0),
+        row("", &heads.collect::<Vec<_>>(), "th", 0..0),
+        row("", &cells.collect::<Vec<_>>(), "td", 0..0),
     );
     text
 }
 
-/// A row of a table; the first so many cells are names, to the left.
-fn row(class: &str, cells: &[String], tag: &str, names: usize) -> String {
+/// A row of a table; the cells at these places are names, to the left.
+fn row(class: &str, cells: &[String], tag: &str, names: Range<usize>) -> String {
     let mut text = match class {
         "" => String::from("<tr>"),
         _ => format!("<tr class=\"{class}\">"),
     };
     for (place, cell) in cells.iter().enumerate() {
-        let left = if place < names { " class=\"name\"" } else { "" };
+        let left = match names.contains(&place) {
+            true => " class=\"name\"",
+            false => "",
+        };
         let _ = write!(text, "<{tag}{left}>{}</{tag}>", escaped(cell));
     }
     text + "</tr>\n"
 }
 
-/// A table with its heads; names are the first so many columns.
-fn table(heads: &[String], rows: &str, names: usize) -> String {
+/// A table with its heads; the columns at these places are names.
+fn table(heads: &[String], rows: &str, names: Range<usize>) -> String {
     let heads = row("", heads, "th", names);
     format!("<table>\n<thead>\n{heads}</thead>\n{rows}</table>\n")
 }
@@ -114,14 +118,14 @@ fn amounts(sums: &Sums, prices: &Prices) -> String {
     ];
     let mut rows = String::from("<tbody>\n");
     for line in &sums.lines {
-        rows.push_str(&row("", &amount_cells(line, prices), "td", 1));
+        rows.push_str(&row("", &amount_cells(line, prices), "td", 0..1));
     }
     let total = amount_cells(&sums.total, prices);
-    rows.push_str(&row("total", &total, "td", 1));
+    rows.push_str(&row("total", &total, "td", 0..1));
     rows.push_str("</tbody>\n");
     format!(
         "<h2>Amounts</h2>\n{}<p class=\"note\">{}</p>\n<p class=\"note\">{}</p>\n",
-        table(&heads.map(str::to_string), &rows, 1),
+        table(&heads.map(str::to_string), &rows, 0..1),
         escaped(&notes::rounding(prices)),
         escaped(notes::SENT),
     )
@@ -156,14 +160,14 @@ fn ignored(sums: &Sums) -> String {
     let mut rows = String::from("<tbody>\n");
     let some = |line: &&Line| line.figures.ignored.all() > 0;
     for line in sums.lines.iter().filter(some) {
-        rows.push_str(&row("", &ignored_cells(line), "td", 1));
+        rows.push_str(&row("", &ignored_cells(line), "td", 0..1));
     }
-    rows.push_str(&row("total", &ignored_cells(&sums.total), "td", 1));
+    rows.push_str(&row("total", &ignored_cells(&sums.total), "td", 0..1));
     rows.push_str("</tbody>\n");
     let told = Reason::ALL.map(|reason| format!("{}: {}", reason as u32, words::reason(reason)));
     format!(
         "<h2>Ignored, by what was sent and by the chip's verdict</h2>\n{}<p class=\"note\">{}.</p>\n",
-        table(&heads.collect::<Vec<_>>(), &rows, 1),
+        table(&heads.collect::<Vec<_>>(), &rows, 0..1),
         escaped(&told.join("; ")),
     )
 }
@@ -218,7 +222,7 @@ fn plays(sums: &Sums, prices: &Prices) -> String {
     }
     format!(
         "<h2>Plays, with exact amounts</h2>\n{}",
-        table(&heads.map(str::to_string), &rows, 3)
+        table(&heads.map(str::to_string), &rows, PLAY)
     )
 }
 
@@ -241,7 +245,7 @@ fn play_rows(play: &Play, cost: Cost, prices: &Prices) -> String {
     format!(
         "<tbody class=\"play\">\n{}<tr class=\"second\"><td></td><td colspan=\"9\">{}; {} bytes; \
          sha256 <code>{}</code>{}</td></tr>\n</tbody>\n",
-        row("first", &cells, "td", 3),
+        row("first", &cells, "td", PLAY),
         escaped(&play.when),
         grouped(play.bytes),
         escaped(&play.sha256),
