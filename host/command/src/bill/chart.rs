@@ -63,8 +63,10 @@ pub fn picture(bill: &Bill, sums: &Sums) -> String {
 }
 
 fn departments(count: usize, which: &str) -> String {
-    let end = if count == 1 { "" } else { "s" };
-    format!("{} {which}department{end} together", grouped(count))
+    match count {
+        1 => format!("1 {which}department"),
+        more => format!("{} {which}departments together", grouped(more)),
+    }
 }
 
 fn head(bill: &Bill, layout: &Layout) -> String {
@@ -85,8 +87,8 @@ fn head(bill: &Bill, layout: &Layout) -> String {
 /// What the parts of a bar are: full ones in one line, hatched ones below.
 fn legend(text: &mut String) {
     for (hatched, words, y) in [
-        (false, "carried out by the chip:", 66.0),
-        (true, "sent to the chip, and ignored:", 88.0),
+        (false, "carried out by the chip:", 62.0),
+        (true, "sent to the chip, and ignored:", 83.0),
     ] {
         let _ = writeln!(text, "<text x=\"16\" y=\"{}\">{words}</text>", y + 11.0);
         let mut area = Area {
@@ -139,7 +141,8 @@ fn axis(text: &mut String, layout: &Layout, floor: f64) {
 
 fn heads(text: &mut String, layout: &Layout, prices: &Prices) {
     for (heads, edge) in column_heads(prices).iter().zip(layout.edges) {
-        for (head, y) in heads.iter().zip([TOP - 25.0, TOP - 11.0]) {
+        let heads = heads.iter().zip([TOP - 25.0, TOP - 11.0]);
+        for (head, y) in heads.filter(|(head, _)| !head.is_empty()) {
             let head = escaped(head);
             let _ = writeln!(
                 text,
@@ -165,7 +168,7 @@ fn bar(text: &mut String, layout: &Layout, line: &Line, y: f64) {
         let (class, words) = (series.class, series.words);
         let attributes =
             format!("class=\"{class}\" data-department=\"{name}\" data-count=\"{count}\"");
-        let title = format!("{name}: {} {words}", grouped(count));
+        let title = format!("{name}: {words} {}", grouped(count));
         let _ = writeln!(text, "{}", part(series, area, &attributes, &title));
     }
 }

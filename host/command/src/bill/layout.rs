@@ -13,7 +13,7 @@ pub const NAME: f64 = 170.0;
 /// Where the bars begin, from the left.
 pub const LEFT: f64 = MARGIN + NAME + GAP;
 /// Where the rows begin, from the top.
-pub const TOP: f64 = 152.0;
+pub const TOP: f64 = 142.0;
 /// Pixels of the longest bar, between columns, and above the total.
 const BAR: f64 = 320.0;
 const GAP: f64 = 16.0;
@@ -52,7 +52,7 @@ impl<'a> Layout<'a> {
         let most = most.unwrap_or(0).max(1);
         let step = step(most);
         let rows = lines.len() + usize::from(sums.lines.len() > lines.len()) + 1;
-        let high = if rows > FEW { 17.0 } else { 24.0 };
+        let high = if rows > FEW { 16.0 } else { 24.0 };
         let edges = edges(prices, &sums.total);
         Layout {
             prices,

@@ -1,5 +1,6 @@
 //! A month's bill: what is on it, what it comes to, and every way to show it.
 
+pub mod cells;
 pub mod chart;
 pub mod csv;
 pub mod figures;

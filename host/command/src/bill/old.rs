@@ -151,8 +151,10 @@ impl Prices {
             register_writes: counts.register_writes,
             ..Figures::default()
         };
-        let cost = self.rounded(&figures).unwrap_or_default();
-        self.in_currency(cost.amount)
+        let cost = self.rounded(&figures);
+        cost.map_or("too large".to_string(), |cost| {
+            self.in_currency(cost.amount)
+        })
     }
 }
 
