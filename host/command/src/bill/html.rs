@@ -99,8 +99,9 @@ fn row(class: &str, cells: &[String], tag: &str, names: Range<usize>) -> String 
 
 /// A table with its heads; the columns at these places are names.
 fn table(heads: &[String], rows: &str, names: Range<usize>) -> String {
-    let heads = row("", heads, "th", names);
-    format!("<table>\n<thead>\n{heads}</thead>\n{rows}</table>\n")
+    let heads = row("", heads, "th", names.clone());
+    let class = if names == PLAY { "plays" } else { "lines" };
+    format!("<table class=\"{class}\">\n<thead>\n{heads}</thead>\n{rows}</table>\n")
 }
 
 /// A line a department, and the total.
