@@ -16,6 +16,8 @@ use std::fmt::Write;
 
 /// Departments with a row of their own.
 pub const ROWS: usize = 60;
+/// Pixels below which a part of a bar is narrow.
+const NARROW: f64 = 2.0;
 /// The picture, as a file of its own.
 ///
 /// # Errors
@@ -108,14 +110,20 @@ fn legend(text: &mut String) {
     }
 }
 
-/// A part of a bar, or its key in the legend.
+/// A part of a bar, or its key in the legend. The narrowest parts have no room
+/// for a hatch, and a whole outline would make them wider than they are.
 fn part(series: &Series, area: Area, attributes: &str, title: &str) -> String {
     let Area { x, y, wide, high } = area;
-    let (fill, hatch) = (series.fill(), series.hatched(area));
+    let (fill, narrow) = (series.fill(), wide < NARROW);
+    let (outline, hatch) = match (narrow, series.hatch) {
+        (false, _) => (0.75, series.hatched(area)),
+        (true, Some(_)) => (0.3, String::new()),
+        (true, None) => (0.0, String::new()),
+    };
     format!(
         "<rect {attributes} x=\"{x:.3}\" y=\"{y:.1}\" width=\"{wide:.3}\" height=\"{high:.1}\" \
-         fill=\"{fill}\" stroke=\"#222222\" stroke-width=\"0.75\"><title>{title}</title></rect>\
-         {hatch}"
+         fill=\"{fill}\" stroke=\"#222222\" stroke-width=\"{outline}\">\
+         <title>{title}</title></rect>{hatch}"
     )
 }
 
