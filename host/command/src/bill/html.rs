@@ -107,7 +107,10 @@ fn table(heads: &[String], rows: &str, names: Range<usize>) -> String {
 /// A line a department, and the total.
 fn amounts(sums: &Sums, prices: &Prices) -> String {
     let currency = &prices.currency;
-    let (amount, sent) = (format!("amount {currency}"), format!("as\u{A0}sent {currency}"));
+    let (amount, sent) = (
+        format!("amount {currency}"),
+        format!("as\u{A0}sent {currency}"),
+    );
     let heads = [
         "department",
         "boards",
@@ -189,7 +192,10 @@ fn plays(sums: &Sums, prices: &Prices) -> String {
 
 fn plays_table(plays: &[(&Play, Cost)], prices: &Prices) -> String {
     let currency = &prices.currency;
-    let (amount, sent) = (format!("amount {currency}"), format!("as\u{A0}sent {currency}"));
+    let (amount, sent) = (
+        format!("amount {currency}"),
+        format!("as\u{A0}sent {currency}"),
+    );
     let heads = [
         "play",
         "board",

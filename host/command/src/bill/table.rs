@@ -10,6 +10,9 @@ use super::sums::{Fault, Line, Sums, sums};
 use crate::numbers::grouped;
 use crate::words;
 
+/// Sentences are not broken into shorter lines.
+const NARROWEST: usize = 40;
+
 /// The bill as tables, in so many columns of a terminal where it can; with
 /// `detail`, the plays too.
 ///
@@ -18,7 +21,7 @@ use crate::words;
 /// Where it cannot be added up.
 pub fn render(bill: &Bill, detail: bool, width: usize) -> Result<String, Fault> {
     let sums = sums(bill)?;
-    let prices = &bill.prices;
+    let (prices, width) = (&bill.prices, width.max(NARROWEST));
     let mut parts = vec![head(bill, width), amounts(&sums, prices).text(width)];
     parts.push(foot(&sums, prices, width));
     if sums.total.figures.ignored.all() > 0 {
