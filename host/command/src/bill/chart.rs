@@ -18,6 +18,7 @@ use std::fmt::Write;
 pub const ROWS: usize = 60;
 /// Pixels below which a part of a bar is narrow.
 const NARROW: f64 = 2.0;
+
 /// The picture, as a file of its own.
 ///
 /// # Errors
