@@ -3,25 +3,21 @@
 //! The largest come first; of more than sixty, the smaller ones share a row.
 
 use super::figures::Bill;
+use super::hatch::Area;
+use super::layout::{LEFT, Layout, MARGIN, NAME, TOP, cells, column_heads};
 use super::letters::{escaped, plain};
 use super::notes;
 use super::pixels::{fitted, pixels};
 use super::prices::Prices;
-use super::series::{SERIES, counts, patterns};
+use super::series::{SERIES, Series, counts};
 use super::sums::{Fault, Line, Sums, sums};
 use crate::numbers::grouped;
 use std::fmt::Write;
 
 /// Departments with a row of their own.
 pub const ROWS: usize = 60;
-/// Pixels: around everything, for a name, for the longest bar, between columns.
-const MARGIN: f64 = 16.0;
-const NAME: f64 = 170.0;
-const BAR: f64 = 320.0;
-const GAP: f64 = 16.0;
-/// Where the bars begin, from the left and from the top.
-const LEFT: f64 = MARGIN + NAME + GAP;
-const TOP: f64 = 152.0;
+/// Pixels below which a part of a bar is narrow.
+const NARROW: f64 = 2.0;
 
 /// The picture, as a file of its own.
 ///
@@ -39,7 +35,7 @@ pub fn render(bill: &Bill) -> Result<String, Fault> {
 pub fn picture(bill: &Bill, sums: &Sums) -> String {
     let (lines, rest) = sums.largest(ROWS);
     let layout = Layout::new(&bill.prices, &lines, sums);
-    let mut text = head(bill, sums, &layout);
+    let mut text = head(bill, &layout);
     legend(&mut text);
     axis(&mut text, &layout, TOP + layout.high * lines.len() as f64);
     heads(&mut text, &layout, &bill.prices);
@@ -58,150 +54,78 @@ pub fn picture(bill: &Bill, sums: &Sums) -> String {
             Some(&words),
         );
     }
-    let words = departments(sums.lines.len(), "");
+    let refused = match sums.total.refused {
+        0 => String::new(),
+        1 => "; 1 play refused".to_string(),
+        more => format!("; {} plays refused", grouped(more)),
+    };
+    let words = departments(sums.lines.len(), "") + &refused;
     let y = layout.row(layout.rows - 1);
     row(&mut text, &layout, &sums.total, y, Some(&words));
     text + "</svg>\n"
 }
 
 fn departments(count: usize, which: &str) -> String {
-    let end = if count == 1 { "" } else { "s" };
-    format!("{} {which}department{end} together", grouped(count))
-}
-
-/// How large everything is, and how a row's numbers read.
-struct Layout<'a> {
-    prices: &'a Prices,
-    rows: usize,
-    high: f64,
-    /// What the whole length of a bar stands for, and a line across.
-    most: u128,
-    step: u128,
-    /// The right edges of the four columns of figures.
-    edges: [f64; 4],
-    width: f64,
-    height: f64,
-}
-
-impl<'a> Layout<'a> {
-    fn new(prices: &'a Prices, lines: &[&Line], sums: &Sums) -> Layout<'a> {
-        let most = lines.iter().map(|line| line.commands()).max();
-        let most = most.unwrap_or(0).max(1);
-        let step = step(most);
-        let rows = lines.len() + usize::from(sums.lines.len() > lines.len()) + 1;
-        let high = if rows > 32 { 17.0 } else { 24.0 };
-        let edges = edges(prices, &sums.total);
-        Layout {
-            prices,
-            rows,
-            high,
-            most: most.div_ceil(step) * step,
-            step,
-            edges,
-            width: (edges[3] + MARGIN).ceil(),
-            height: TOP + high * rows as f64 + 8.0 + MARGIN,
-        }
-    }
-
-    /// The top of a row; the last one, the total, stands apart.
-    fn row(&self, place: usize) -> f64 {
-        let apart = if place + 1 == self.rows { 8.0 } else { 0.0 };
-        TOP + self.high * place as f64 + apart
-    }
-
-    /// How long a bar for so many commands is.
-    fn long(&self, count: u128) -> f64 {
-        BAR * count as f64 / self.most as f64
+    match count {
+        1 => format!("1 {which}department"),
+        more => format!("{} {which}departments together", grouped(more)),
     }
 }
 
-/// The heads of the columns, in two lines.
-fn column_heads(prices: &Prices) -> [[String; 2]; 4] {
-    let currency = plain(&prices.currency);
-    [
-        ["carried".to_string(), "out".to_string()],
-        [String::new(), "ignored".to_string()],
-        ["amount".to_string(), currency.clone()],
-        ["as sent".to_string(), currency],
-    ]
-}
-
-/// The figures of a line, as they are shown.
-fn cells(line: &Line, prices: &Prices) -> [String; 4] {
-    [
-        grouped(line.figures.carried_out()),
-        grouped(line.figures.ignored.all()),
-        line.cost.amount.shown(prices.decimals),
-        line.cost.sent.shown(prices.decimals),
-    ]
-}
-
-/// No line has longer figures than the total.
-fn edges(prices: &Prices, total: &Line) -> [f64; 4] {
-    let mut edge = LEFT + BAR;
-    let mut columns = column_heads(prices).into_iter().zip(cells(total, prices));
-    std::array::from_fn(|_| {
-        let (heads, cell) = columns.next().unwrap_or_default();
-        let texts = heads.iter().chain([&cell]);
-        let wide = texts.map(|text| pixels(text) * 1.08).fold(0.0, f64::max);
-        edge += GAP + wide;
-        edge
-    })
-}
-
-/// The distance of the lines across: 1, 2 or 5 and zeros, and as few of them as
-/// have room for their numbers.
-fn step(most: u128) -> u128 {
-    let room = |step: &u128| {
-        let lines = most.div_ceil(*step);
-        lines <= 5 && (lines + 1) as f64 * (pixels(&grouped(most)) + 8.0) <= BAR + 90.0
-    };
-    let powers = (0..38).map(|zeros| 10_u128.pow(zeros));
-    let mut steps = powers.flat_map(|power| [power, 2 * power, 5 * power]);
-    steps.find(room).unwrap_or(most)
-}
-
-fn head(bill: &Bill, sums: &Sums, layout: &Layout) -> String {
+fn head(bill: &Bill, layout: &Layout) -> String {
     let Layout { width, height, .. } = layout;
-    let title = escaped(&notes::title(bill));
+    let title = escaped(&format!("{}: commands by department", notes::title(bill)));
     let state = escaped(&notes::state(bill));
-    let refused = match sums.total.refused {
-        0 => String::new(),
-        1 => " 1 play was refused and is not billed.".to_string(),
-        more => format!(" {} plays were refused and are not billed.", grouped(more)),
-    };
     format!(
         "<svg xmlns=\"http://www.w3.org/2000/svg\" width=\"{width}\" height=\"{height}\" \
          viewBox=\"0 0 {width} {height}\" font-family=\"sans-serif\" font-size=\"12\" role=\"img\">\n\
-         <title>{title}: commands by department</title>\n{}\
+         <title>{title}</title>\n\
          <path class=\"paper\" fill=\"#ffffff\" d=\"M0 0H{width}V{height}H0z\"/>\n\
          <text x=\"16\" y=\"30\" font-size=\"20\" font-weight=\"bold\">{title}</text>\n\
-         <text x=\"16\" y=\"50\" fill=\"#333333\">Commands by department, the largest first. \
-         The month is {state}.{refused}</text>\n",
-        patterns()
+         <text x=\"16\" y=\"50\" fill=\"#333333\">The largest first. The month is \
+         {state}.</text>\n"
     )
 }
 
 /// What the parts of a bar are: full ones in one line, hatched ones below.
 fn legend(text: &mut String) {
-    for (ignored, words, y) in [
-        (false, "carried out by the chip:", 66.0),
-        (true, "sent to the chip, and ignored:", 88.0),
+    for (hatched, words, y) in [
+        (false, "carried out by the chip:", 62.0),
+        (true, "sent to the chip, and ignored:", 83.0),
     ] {
         let _ = writeln!(text, "<text x=\"16\" y=\"{}\">{words}</text>", y + 11.0);
-        let mut x = LEFT;
-        for series in SERIES.iter().filter(|series| series.ignored() == ignored) {
-            let (fill, words) = (series.fill(), series.words.trim_end_matches(" ignored"));
-            let _ = writeln!(
-                text,
-                "<path class=\"key\" fill=\"{fill}\" stroke=\"#222222\" stroke-width=\"0.75\" \
-                 d=\"M{x:.1} {y}h22v14h-22z\"/><text x=\"{:.1}\" y=\"{}\">{words}</text>",
-                x + 28.0,
-                y + 11.0
-            );
-            x += 56.0 + pixels(words);
+        let mut area = Area {
+            x: LEFT,
+            y,
+            wide: 22.0,
+            high: 14.0,
+        };
+        let chosen = |series: &&Series| series.hatch.is_some() == hatched;
+        for series in SERIES.iter().filter(chosen) {
+            let words = series.words.trim_end_matches(" ignored");
+            let (x, base) = (area.x + 28.0, y + 11.0);
+            let key = part(series, area, "class=\"key\"", words);
+            let _ = writeln!(text, "{key}<text x=\"{x:.1}\" y=\"{base}\">{words}</text>");
+            area.x = x + 28.0 + pixels(words);
         }
     }
+}
+
+/// A part of a bar, or its key in the legend. The narrowest parts have no room
+/// for a hatch, and a whole outline would make them wider than they are.
+fn part(series: &Series, area: Area, attributes: &str, title: &str) -> String {
+    let Area { x, y, wide, high } = area;
+    let (fill, narrow) = (series.fill(), wide < NARROW);
+    let (outline, hatch) = match (narrow, series.hatch) {
+        (false, _) => (0.75, series.hatched(area)),
+        (true, Some(_)) => (0.3, String::new()),
+        (true, None) => (0.0, String::new()),
+    };
+    format!(
+        "<rect {attributes} x=\"{x:.3}\" y=\"{y:.1}\" width=\"{wide:.3}\" height=\"{high:.1}\" \
+         fill=\"{fill}\" stroke=\"#222222\" stroke-width=\"{outline}\">\
+         <title>{title}</title></rect>{hatch}"
+    )
 }
 
 /// The lines across, with their numbers above.
@@ -226,7 +150,8 @@ fn axis(text: &mut String, layout: &Layout, floor: f64) {
 
 fn heads(text: &mut String, layout: &Layout, prices: &Prices) {
     for (heads, edge) in column_heads(prices).iter().zip(layout.edges) {
-        for (head, y) in heads.iter().zip([TOP - 25.0, TOP - 11.0]) {
+        let heads = heads.iter().zip([TOP - 25.0, TOP - 11.0]);
+        for (head, y) in heads.filter(|(head, _)| !head.is_empty()) {
             let head = escaped(head);
             let _ = writeln!(
                 text,
@@ -242,18 +167,18 @@ fn bar(text: &mut String, layout: &Layout, line: &Line, y: f64) {
     let mut before = 0;
     let parts = SERIES.iter().zip(counts(&line.figures));
     for (series, count) in parts.filter(|(_, count)| *count > 0) {
-        let (class, words, fill) = (series.class, series.words, series.fill());
-        let (x, long) = (LEFT + layout.long(before), layout.long(count.into()));
+        let area = Area {
+            x: LEFT + layout.long(before),
+            y: y + 2.5,
+            wide: layout.long(count.into()),
+            high: layout.high - 5.0,
+        };
         before += u128::from(count);
-        let _ = writeln!(
-            text,
-            "<rect class=\"{class}\" data-department=\"{name}\" data-count=\"{count}\" \
-             x=\"{x:.3}\" y=\"{:.1}\" width=\"{long:.3}\" height=\"{:.1}\" fill=\"{fill}\" \
-             stroke=\"#222222\" stroke-width=\"0.75\"><title>{name}: {} {words}</title></rect>",
-            y + 2.5,
-            layout.high - 5.0,
-            grouped(count)
-        );
+        let (class, words) = (series.class, series.words);
+        let attributes =
+            format!("class=\"{class}\" data-department=\"{name}\" data-count=\"{count}\"");
+        let title = format!("{name}: {words} {}", grouped(count));
+        let _ = writeln!(text, "{}", part(series, area, &attributes, &title));
     }
 }
 

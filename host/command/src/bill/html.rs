@@ -1,5 +1,6 @@
 //! The bill as one page to print: no script, and nothing from outside.
 
+use super::cells;
 use super::chart;
 use super::figures::{Bill, Play};
 use super::letters::escaped;
@@ -9,7 +10,12 @@ use super::sums::{Cost, Fault, Line, Sums, sums};
 use crate::numbers::grouped;
 use crate::words;
 use std::fmt::Write;
-use tunebriar::Reason;
+use std::ops::Range;
+
+/// Where a play has its board and its tape.
+const PLAY: Range<usize> = 1..3;
+/// Plays in one table.
+const LONGEST: usize = 200;
 
 /// The page; with `detail`, a line a play with its hash. It is well-formed XML
 /// behind its first line, so that it can be checked.
@@ -22,12 +28,9 @@ pub fn render(bill: &Bill, detail: bool) -> Result<String, Fault> {
     let prices = &bill.prices;
     let mut page = head(bill);
     page.push_str(&summary(bill, &sums));
+    let picture = chart::picture(bill, &sums);
+    let _ = write!(page, "<figure>\n{picture}</figure>\n");
     page.push_str(&amounts(&sums, prices));
-    let _ = write!(
-        page,
-        "<h2>Commands by department</h2>\n<figure>\n{}</figure>\n",
-        chart::picture(bill, &sums)
-    );
     if sums.total.figures.ignored.all() > 0 {
         page.push_str(&ignored(&sums));
     }
@@ -72,35 +75,42 @@ fn summary(bill: &Bill, sums: &Sums) -> String {
         "<h2>Prices of one, in {}</h2>\n<table class=\"prices\">\n<thead>\n{}</thead>\n<tbody>\n{}\
          </tbody>\n</table>",
         escaped(&prices.currency),
-        row("", &heads.collect::<Vec<_>>(), "th", 0),
-        row("", &cells.collect::<Vec<_>>(), "td", 0),
+        row("", &heads.collect::<Vec<_>>(), "th", 0..0),
+        row("", &cells.collect::<Vec<_>>(), "td", 0..0),
     );
     text
 }
 
-/// A row of a table; the first so many cells are names, to the left.
-fn row(class: &str, cells: &[String], tag: &str, names: usize) -> String {
+/// A row of a table; the cells at these places are names, to the left.
+fn row(class: &str, cells: &[String], tag: &str, names: Range<usize>) -> String {
     let mut text = match class {
         "" => String::from("<tr>"),
         _ => format!("<tr class=\"{class}\">"),
     };
     for (place, cell) in cells.iter().enumerate() {
-        let left = if place < names { " class=\"name\"" } else { "" };
+        let left = match names.contains(&place) {
+            true => " class=\"name\"",
+            false => "",
+        };
         let _ = write!(text, "<{tag}{left}>{}</{tag}>", escaped(cell));
     }
     text + "</tr>\n"
 }
 
-/// A table with its heads; names are the first so many columns.
-fn table(heads: &[String], rows: &str, names: usize) -> String {
-    let heads = row("", heads, "th", names);
-    format!("<table>\n<thead>\n{heads}</thead>\n{rows}</table>\n")
+/// A table with its heads; the columns at these places are names.
+fn table(heads: &[String], rows: &str, names: Range<usize>) -> String {
+    let heads = row("", heads, "th", names.clone());
+    let class = if names == PLAY { "plays" } else { "lines" };
+    format!("<table class=\"{class}\">\n<thead>\n{heads}</thead>\n{rows}</table>\n")
 }
 
 /// A line a department, and the total.
 fn amounts(sums: &Sums, prices: &Prices) -> String {
     let currency = &prices.currency;
-    let (amount, sent) = (format!("amount {currency}"), format!("as sent {currency}"));
+    let (amount, sent) = (
+        format!("amount {currency}"),
+        format!("as\u{A0}sent {currency}"),
+    );
     let heads = [
         "department",
         "boards",
@@ -114,32 +124,17 @@ fn amounts(sums: &Sums, prices: &Prices) -> String {
     ];
     let mut rows = String::from("<tbody>\n");
     for line in &sums.lines {
-        rows.push_str(&row("", &amount_cells(line, prices), "td", 1));
+        rows.push_str(&row("", &cells::amounts(line, prices), "td", 0..1));
     }
-    let total = amount_cells(&sums.total, prices);
-    rows.push_str(&row("total", &total, "td", 1));
+    let total = cells::amounts(&sums.total, prices);
+    rows.push_str(&row("total", &total, "td", 0..1));
     rows.push_str("</tbody>\n");
     format!(
         "<h2>Amounts</h2>\n{}<p class=\"note\">{}</p>\n<p class=\"note\">{}</p>\n",
-        table(&heads.map(str::to_string), &rows, 1),
+        table(&heads.map(str::to_string), &rows, 0..1),
         escaped(&notes::rounding(prices)),
         escaped(notes::SENT),
     )
-}
-
-fn amount_cells(line: &Line, prices: &Prices) -> [String; 9] {
-    let figures = &line.figures;
-    [
-        line.name.to_string(),
-        grouped(line.boards),
-        grouped(line.played),
-        grouped(figures.programs),
-        grouped(figures.erases),
-        grouped(figures.register_writes),
-        grouped(figures.ignored.all()),
-        line.cost.amount.shown(prices.decimals),
-        line.cost.sent.shown(prices.decimals),
-    ]
 }
 
 /// What was ignored, by what was sent and by verdict; only where there is some.
@@ -151,33 +146,26 @@ fn ignored(sums: &Sums) -> String {
         "register writes",
         "others",
     ];
-    let verdicts = Reason::ALL.map(|reason| format!("by {}", reason as u32));
-    let heads = kinds.iter().map(|kind| (*kind).to_string()).chain(verdicts);
+    let verdicts = cells::verdicts(sums);
+    let by = verdicts
+        .iter()
+        .map(|reason| format!("by {}", *reason as u32));
+    let heads = kinds.iter().map(|kind| (*kind).to_string()).chain(by);
     let mut rows = String::from("<tbody>\n");
     let some = |line: &&Line| line.figures.ignored.all() > 0;
     for line in sums.lines.iter().filter(some) {
-        rows.push_str(&row("", &ignored_cells(line), "td", 1));
+        rows.push_str(&row("", &cells::ignored(line, &verdicts), "td", 0..1));
     }
-    rows.push_str(&row("total", &ignored_cells(&sums.total), "td", 1));
+    let total = cells::ignored(&sums.total, &verdicts);
+    rows.push_str(&row("total", &total, "td", 0..1));
     rows.push_str("</tbody>\n");
-    let told = Reason::ALL.map(|reason| format!("{}: {}", reason as u32, words::reason(reason)));
+    let told = verdicts.iter().copied();
+    let told = told.map(|reason| format!("by {}: {}", reason as u32, words::reason(reason)));
     format!(
         "<h2>Ignored, by what was sent and by the chip's verdict</h2>\n{}<p class=\"note\">{}.</p>\n",
-        table(&heads.collect::<Vec<_>>(), &rows, 1),
-        escaped(&told.join("; ")),
+        table(&heads.collect::<Vec<_>>(), &rows, 0..1),
+        escaped(&told.collect::<Vec<_>>().join("; ")),
     )
-}
-
-fn ignored_cells(line: &Line) -> Vec<String> {
-    let ignored = &line.figures.ignored;
-    let kinds = [
-        ignored.programs,
-        ignored.erases,
-        ignored.register_writes,
-        ignored.others,
-    ];
-    let counts = kinds.into_iter().chain(ignored.by_verdict).map(grouped);
-    [line.name.to_string()].into_iter().chain(counts).collect()
 }
 
 fn refused(sums: &Sums) -> String {
@@ -189,10 +177,25 @@ fn refused(sums: &Sums) -> String {
     text + "</ul>\n"
 }
 
-/// Every play, below the name of its department.
+/// Every play, below the name of its department. Browsers print many tables with
+/// ease, but one of many thousand lines hardly at all.
 fn plays(sums: &Sums, prices: &Prices) -> String {
+    let mut text = String::from("<h2>Plays, with exact amounts</h2>\n");
+    for line in sums.lines.iter().filter(|line| !line.plays.is_empty()) {
+        let _ = writeln!(text, "<h3>{}</h3>", escaped(line.name));
+        for some in line.plays.chunks(LONGEST) {
+            text.push_str(&plays_table(some, prices));
+        }
+    }
+    text
+}
+
+fn plays_table(plays: &[(&Play, Cost)], prices: &Prices) -> String {
     let currency = &prices.currency;
-    let (amount, sent) = (format!("amount {currency}"), format!("as sent {currency}"));
+    let (amount, sent) = (
+        format!("amount {currency}"),
+        format!("as\u{A0}sent {currency}"),
+    );
     let heads = [
         "play",
         "board",
@@ -205,43 +208,20 @@ fn plays(sums: &Sums, prices: &Prices) -> String {
         &amount,
         &sent,
     ];
-    let mut rows = String::new();
-    for line in sums.lines.iter().filter(|line| !line.plays.is_empty()) {
-        let name = escaped(line.name);
-        let _ = writeln!(
-            rows,
-            "<tbody><tr class=\"group\"><th colspan=\"10\">{name}</th></tr></tbody>"
-        );
-        for (play, cost) in &line.plays {
-            rows.push_str(&play_rows(play, *cost, prices));
-        }
-    }
-    format!(
-        "<h2>Plays, with exact amounts</h2>\n{}",
-        table(&heads.map(str::to_string), &rows, 3)
-    )
+    let rows = plays.iter();
+    let rows: String = rows
+        .map(|(play, cost)| play_rows(play, *cost, prices))
+        .collect();
+    table(&heads.map(str::to_string), &rows, PLAY)
 }
 
 fn play_rows(play: &Play, cost: Cost, prices: &Prices) -> String {
-    let (figures, exact) = (&play.figures, prices.exact());
-    let cells = [
-        play.number.to_string(),
-        play.board.clone(),
-        play.tape.clone(),
-        grouped(play.records),
-        grouped(figures.programs),
-        grouped(figures.erases),
-        grouped(figures.register_writes),
-        grouped(figures.ignored.all()),
-        cost.amount.shown(exact),
-        cost.sent.shown(exact),
-    ];
     let why = play.refusal.as_ref();
     let why = why.map_or(String::new(), |why| format!("; not billed: {why}"));
     format!(
         "<tbody class=\"play\">\n{}<tr class=\"second\"><td></td><td colspan=\"9\">{}; {} bytes; \
          sha256 <code>{}</code>{}</td></tr>\n</tbody>\n",
-        row("first", &cells, "td", 3),
+        row("first", &cells::play(play, cost, prices), "td", PLAY),
         escaped(&play.when),
         grouped(play.bytes),
         escaped(&play.sha256),

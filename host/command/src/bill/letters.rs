@@ -36,7 +36,6 @@ pub fn escaped(text: &str) -> String {
             '<' => safe.push_str("&lt;"),
             '>' => safe.push_str("&gt;"),
             '"' => safe.push_str("&quot;"),
-            '\'' => safe.push_str("&#39;"),
             _ => safe.push(letter),
         }
     }
@@ -93,7 +92,7 @@ mod tests {
     fn no_name_breaks_out() {
         assert_eq!(
             escaped("<R&D> \"x\" 'y'\u{7}\u{202E}"),
-            "&lt;R&amp;D&gt; &quot;x&quot; &#39;y&#39;\u{FFFD}\u{FFFD}"
+            "&lt;R&amp;D&gt; &quot;x&quot; 'y'\u{FFFD}\u{FFFD}"
         );
         assert_eq!(plain("a\nb\t\u{9B}c"), "a\u{FFFD}b\u{FFFD}\u{FFFD}c");
     }

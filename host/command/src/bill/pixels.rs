@@ -59,7 +59,7 @@ mod tests {
     #[test]
     fn long_names_keep_both_ends() {
         assert_eq!(fitted("vault", 200.0), "vault");
-        assert_eq!(fitted("ward of the heart, 17", 100.0), "ward of…heart, 17");
+        assert_eq!(fitted("ward of the heart, 17", 100.0), "ward o…rt, 17");
         assert_eq!(fitted("", 0.0), "");
     }
 

@@ -222,85 +222,88 @@ mod tests {
         );
     }
 
+    /// What is changed in a good text, into what, and what is then said.
+    const WRONG: &[(&str, &str, &str)] = &[
+        (
+            "0.35",
+            ".5",
+            "line 3: '.5' is no price: digits, and at most six after a point",
+        ),
+        (
+            "0.35",
+            "0,35",
+            "line 3: '0,35' is no price: digits, and at most six after a point",
+        ),
+        (
+            "0.35",
+            "-1",
+            "line 3: '-1' is no price: digits, and at most six after a point",
+        ),
+        (
+            "0.35",
+            "0.1234567",
+            "line 3: '0.1234567' is no price: digits, and at most six after a point",
+        ),
+        (
+            "0.35",
+            "1000000000.000001",
+            "line 3: 1000000000.000001 is over the highest price, 1,000,000,000",
+        ),
+        (
+            "0.35",
+            "99999999999999999999",
+            "line 3: 99999999999999999999 is over the highest price, 1,000,000,000",
+        ),
+        ("0.35", "# none", "line 3: 'erase' is empty"),
+        ("EUR", "", "line 1: 'currency' is empty"),
+        (
+            "EUR",
+            "\u{200B}",
+            "line 1: '\u{200B}' is no currency: it shows nothing",
+        ),
+        (
+            "EUR",
+            "E\u{7}",
+            "line 1: U+0007 stands in it, a control character",
+        ),
+        ("EUR", "E\tR", "line 1: a tab stands in the currency"),
+        (
+            "EUR",
+            "\u{202E}R",
+            "line 1: U+202E stands in it, a control character",
+        ),
+        (
+            "EUR",
+            "研究研究研究研究研",
+            "line 1: '研究研究研究研究研' is over 16 columns wide",
+        ),
+        (
+            "EUR",
+            "EUR\rprogram = 1",
+            "line 1: U+000D stands in it, a control character",
+        ),
+        ("EUR", "EUR\ndecimals = 7", "line 2: '7' is none of 0 to 6"),
+        (
+            "erase =",
+            "erase",
+            "line 3: 'erase 0.35' is not KEY = VALUE",
+        ),
+        (
+            "erase",
+            "eraze",
+            "line 3: 'eraze' is none of currency, decimals, program, erase, register-write, ignored",
+        ),
+        (
+            "erase",
+            "program",
+            "line 3: 'program' stands in line 2 already",
+        ),
+        ("erase = 0.35\n", "", "'erase' is missing"),
+    ];
+
     #[test]
     fn what_is_wrong_is_told_with_its_line() {
-        for (from, to, words) in [
-            (
-                "0.35",
-                ".5",
-                "line 3: '.5' is no price: digits, and at most six after a point",
-            ),
-            (
-                "0.35",
-                "0,35",
-                "line 3: '0,35' is no price: digits, and at most six after a point",
-            ),
-            (
-                "0.35",
-                "-1",
-                "line 3: '-1' is no price: digits, and at most six after a point",
-            ),
-            (
-                "0.35",
-                "0.1234567",
-                "line 3: '0.1234567' is no price: digits, and at most six after a point",
-            ),
-            (
-                "0.35",
-                "1000000000.000001",
-                "line 3: 1000000000.000001 is over the highest price, 1,000,000,000",
-            ),
-            (
-                "0.35",
-                "99999999999999999999",
-                "line 3: 99999999999999999999 is over the highest price, 1,000,000,000",
-            ),
-            ("0.35", "# none", "line 3: 'erase' is empty"),
-            ("EUR", "", "line 1: 'currency' is empty"),
-            (
-                "EUR",
-                "\u{200B}",
-                "line 1: '\u{200B}' is no currency: it shows nothing",
-            ),
-            (
-                "EUR",
-                "E\u{7}",
-                "line 1: U+0007 stands in it, a control character",
-            ),
-            ("EUR", "E\tR", "line 1: a tab stands in the currency"),
-            (
-                "EUR",
-                "\u{202E}R",
-                "line 1: U+202E stands in it, a control character",
-            ),
-            (
-                "EUR",
-                "研究研究研究研究研",
-                "line 1: '研究研究研究研究研' is over 16 columns wide",
-            ),
-            (
-                "EUR",
-                "EUR\rprogram = 1",
-                "line 1: U+000D stands in it, a control character",
-            ),
-            ("EUR", "EUR\ndecimals = 7", "line 2: '7' is none of 0 to 6"),
-            (
-                "erase =",
-                "erase",
-                "line 3: 'erase 0.35' is not KEY = VALUE",
-            ),
-            (
-                "erase",
-                "eraze",
-                "line 3: 'eraze' is none of currency, decimals, program, erase, register-write, ignored",
-            ),
-            (
-                "erase",
-                "program",
-                "line 3: 'program' stands in line 2 already",
-            ),
-            ("erase = 0.35\n", "", "'erase' is missing"),
-        ] {
+        for (from, to, words) in WRONG {
             let told = read(&GOOD.replace(from, to));
             assert_eq!(told, Err(format!("prices.txt: {words}")));
         }

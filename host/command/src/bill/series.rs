@@ -2,82 +2,90 @@
 //! hatched. In grey print the tones differ in lightness, the hatches in kind.
 
 use super::figures::Figures;
-use std::fmt::Write;
+use super::hatch::{Area, Hatch, lines};
 
 /// A part of every bar.
 #[derive(Clone, Copy, Debug)]
 pub struct Series {
-    /// Its class, and the name of its pattern.
+    /// Its class.
     pub class: &'static str,
-    /// Its words in the legend.
+    /// What it counts.
     pub words: &'static str,
-    /// Its colour.
+    /// How it is hatched, where it is what the chip ignored.
+    pub hatch: Option<Hatch>,
     colour: &'static str,
-    /// How it is hatched, if it is: a piece of a pattern, and its turn.
-    hatch: Option<(&'static str, i32)>,
 }
-
-const STRIPE: &str = "M0 0h2.6v6h-2.6z";
-const DOT: &str = "M1 1h2.4v2.4h-2.4zM4 4h2.4v2.4h-2.4z";
 
 /// The parts, in the order in which they follow each other.
 pub const SERIES: [Series; 7] = [
-    full("programs", "programs", "#1b3a6b"),
-    full("erases", "erases", "#d2792a"),
-    full("register-writes", "register writes", "#f4d98a"),
-    hatched(
+    part("programs", "programs", "#1b3a6b", None),
+    part("erases", "erases", "#d2792a", None),
+    part("register-writes", "register writes", "#f4d98a", None),
+    part(
         "programs-ignored",
         "programs ignored",
         "#1b3a6b",
-        (STRIPE, 45),
+        Some(Hatch::Rising),
     ),
-    hatched("erases-ignored", "erases ignored", "#b85f14", (STRIPE, -45)),
-    hatched(
+    part(
+        "erases-ignored",
+        "erases ignored",
+        "#b85f14",
+        Some(Hatch::Falling),
+    ),
+    part(
         "register-writes-ignored",
         "register writes ignored",
         "#8a6d12",
-        (STRIPE, 90),
+        Some(Hatch::Level),
     ),
-    hatched("others-ignored", "others ignored", "#555555", (DOT, 0)),
+    part(
+        "others-ignored",
+        "others ignored",
+        "#444444",
+        Some(Hatch::Dots),
+    ),
 ];
 
-const fn full(class: &'static str, words: &'static str, colour: &'static str) -> Series {
-    Series {
-        class,
-        words,
-        colour,
-        hatch: None,
-    }
-}
-
-const fn hatched(
+const fn part(
     class: &'static str,
     words: &'static str,
     colour: &'static str,
-    hatch: (&'static str, i32),
+    hatch: Option<Hatch>,
 ) -> Series {
     Series {
         class,
         words,
+        hatch,
         colour,
-        hatch: Some(hatch),
     }
 }
 
 impl Series {
-    /// Whether it is what the chip ignored.
+    /// What fills it below its hatch.
     #[must_use]
-    pub fn ignored(&self) -> bool {
-        self.hatch.is_some()
+    pub fn fill(&self) -> &'static str {
+        match self.hatch {
+            Some(_) => "#ffffff",
+            None => self.colour,
+        }
     }
 
-    /// What it is filled with.
+    /// Its hatch over an area, where it has one.
     #[must_use]
-    pub fn fill(&self) -> String {
-        match self.hatch {
-            Some(_) => format!("url(#{})", self.class),
-            None => self.colour.to_string(),
-        }
+    pub fn hatched(&self, area: Area) -> String {
+        let Some(hatch) = self.hatch else {
+            return String::new();
+        };
+        let (path, colour) = (lines(hatch, area), self.colour);
+        let cap = match hatch {
+            Hatch::Dots => "round",
+            Hatch::Rising | Hatch::Falling | Hatch::Level => "butt",
+        };
+        format!(
+            "<path class=\"hatch\" fill=\"none\" stroke=\"{colour}\" stroke-width=\"2\" \
+             stroke-linecap=\"{cap}\" d=\"{path}\"/>"
+        )
     }
 }
 
@@ -94,27 +102,4 @@ pub fn counts(figures: &Figures) -> [u64; 7] {
         ignored.register_writes,
         ignored.others,
     ]
-}
-
-/// The patterns that the hatched parts are filled with.
-#[must_use]
-pub fn patterns() -> String {
-    let mut text = String::from("<defs>\n");
-    for Series {
-        class,
-        colour,
-        hatch,
-        ..
-    } in SERIES
-    {
-        if let Some((piece, turn)) = hatch {
-            let _ = writeln!(
-                text,
-                "<pattern id=\"{class}\" width=\"6\" height=\"6\" patternUnits=\"userSpaceOnUse\" \
-                 patternTransform=\"rotate({turn})\"><path fill=\"#ffffff\" d=\"M0 0h6v6h-6z\"/>\
-                 <path fill=\"{colour}\" d=\"{piece}\"/></pattern>"
-            );
-        }
-    }
-    text + "</defs>\n"
 }

@@ -1,14 +1,17 @@
 //! The bill on a terminal.
 
-use super::figures::{Bill, Play};
+use super::cells;
+use super::figures::Bill;
 use super::grid::{Column, Grid};
 use super::letters::{pieces, plain};
 use super::notes;
 use super::prices::Prices;
-use super::sums::{Cost, Fault, Line, Sums, sums};
+use super::sums::{Fault, Line, Sums, sums};
 use crate::numbers::grouped;
 use crate::words;
-use tunebriar::Reason;
+
+/// Sentences are not broken into shorter lines.
+const NARROWEST: usize = 40;
 
 /// The bill as tables, in so many columns of a terminal where it can; with
 /// `detail`, the plays too.
@@ -18,7 +21,7 @@ use tunebriar::Reason;
 /// Where it cannot be added up.
 pub fn render(bill: &Bill, detail: bool, width: usize) -> Result<String, Fault> {
     let sums = sums(bill)?;
-    let prices = &bill.prices;
+    let (prices, width) = (&bill.prices, width.max(NARROWEST));
     let mut parts = vec![head(bill, width), amounts(&sums, prices).text(width)];
     parts.push(foot(&sums, prices, width));
     if sums.total.figures.ignored.all() > 0 {
@@ -83,26 +86,11 @@ fn amounts(sums: &Sums, prices: &Prices) -> Grid {
         numbers(&format!("as sent\n{currency}")),
     ]);
     for line in &sums.lines {
-        grid.row(amount(line, prices));
+        grid.row(cells::amounts(line, prices));
     }
     grid.rule();
-    grid.row(amount(&sums.total, prices));
+    grid.row(cells::amounts(&sums.total, prices));
     grid
-}
-
-fn amount(line: &Line, prices: &Prices) -> Vec<String> {
-    let figures = &line.figures;
-    vec![
-        line.name.to_string(),
-        grouped(line.boards),
-        grouped(line.played),
-        grouped(figures.programs),
-        grouped(figures.erases),
-        grouped(figures.register_writes),
-        grouped(figures.ignored.all()),
-        line.cost.amount.shown(prices.decimals),
-        line.cost.sent.shown(prices.decimals),
-    ]
 }
 
 /// What was ignored, by what was sent and by verdict; only where there is some.
@@ -114,53 +102,29 @@ fn ignored(sums: &Sums) -> Grid {
         numbers("reg.\nwrites"),
         numbers("others"),
     ];
-    let met = met(sums);
-    columns.extend(
-        met.iter()
-            .map(|(number, _)| numbers(&format!("by\n{number}"))),
-    );
+    let verdicts = cells::verdicts(sums);
+    let by = verdicts
+        .iter()
+        .map(|reason| format!("by\n{}", *reason as u32));
+    columns.extend(by.map(Column::Numbers));
     let mut grid = Grid::new(columns);
     let some = |line: &&Line| line.figures.ignored.all() > 0;
     for line in sums.lines.iter().filter(some) {
-        grid.row(ignored_of(line, &met));
+        grid.row(cells::ignored(line, &verdicts));
     }
     grid.rule();
-    grid.row(ignored_of(&sums.total, &met));
+    grid.row(cells::ignored(&sums.total, &verdicts));
     grid
-}
-
-/// The verdicts that were met, with their numbers.
-fn met(sums: &Sums) -> Vec<(usize, Reason)> {
-    let counts = sums.total.figures.ignored.by_verdict;
-    let all = (0..).zip(Reason::ALL);
-    all.filter(|(place, _)| counts[*place] > 0)
-        .map(|(_, reason)| (reason as usize, reason))
-        .collect()
-}
-
-fn ignored_of(line: &Line, met: &[(usize, Reason)]) -> Vec<String> {
-    let ignored = &line.figures.ignored;
-    let by_kind = [
-        ignored.programs,
-        ignored.erases,
-        ignored.register_writes,
-        ignored.others,
-    ];
-    let by_verdict = met
-        .iter()
-        .map(|(number, _)| ignored.by_verdict[number - 10]);
-    let counts = by_kind.into_iter().chain(by_verdict).map(grouped);
-    [line.name.to_string()].into_iter().chain(counts).collect()
 }
 
 /// The verdicts that were met, in words.
 fn verdicts(sums: &Sums) -> String {
-    let told = met(sums).into_iter();
-    told.map(|(number, reason)| format!("by {number}: {}\n", words::reason(reason)))
+    let told = cells::verdicts(sums).into_iter();
+    told.map(|reason| format!("by {}: {}\n", reason as u32, words::reason(reason)))
         .collect()
 }
 
-/// A line a play, with its time and hash below it.
+/// A line a play, with its time and hash below it; as sent has no room there.
 fn plays(sums: &Sums, prices: &Prices) -> Grid {
     let currency = plain(&prices.currency);
     let mut grid = Grid::new(vec![
@@ -176,7 +140,9 @@ fn plays(sums: &Sums, prices: &Prices) -> Grid {
     ]);
     for line in &sums.lines {
         for (play, cost) in &line.plays {
-            grid.row(play_cells(play, *cost, prices));
+            let mut row = cells::play(play, *cost, prices);
+            row.pop();
+            grid.row(row);
             grid.below(&format!(
                 "{}, {}, {} bytes",
                 line.name,
@@ -190,19 +156,4 @@ fn plays(sums: &Sums, prices: &Prices) -> Grid {
         }
     }
     grid
-}
-
-fn play_cells(play: &Play, cost: Cost, prices: &Prices) -> Vec<String> {
-    let figures = &play.figures;
-    vec![
-        play.number.to_string(),
-        play.board.clone(),
-        play.tape.clone(),
-        grouped(play.records),
-        grouped(figures.programs),
-        grouped(figures.erases),
-        grouped(figures.register_writes),
-        grouped(figures.ignored.all()),
-        cost.amount.shown(prices.exact()),
-    ]
 }
