@@ -17,7 +17,7 @@ use tunebriar::{Meter, Refusal, Registers, SIZE, State, replay};
 /// How it is called.
 #[derive(Debug, Subcommand)]
 pub enum Board {
-    /// A new board: erased, or with an image
+    /// New boards: erased, or with an image
     Add(Add),
     /// Every board, by department
     List,
@@ -32,21 +32,22 @@ pub enum Board {
     Import(Import),
 }
 
-/// A new board.
+/// New boards.
 #[derive(Debug, Args)]
 pub struct Add {
-    /// Its name
-    board: String,
-    /// The department that pays for it
+    /// Their names
+    #[arg(required = true, value_name = "BOARD")]
+    boards: Vec<String>,
+    /// The department that pays for them
     #[arg(long)]
     department: String,
-    /// Its chip
+    /// Their chip
     #[arg(long, default_value = NAME, value_parser = [NAME])]
     chip: String,
-    /// Its array's bytes, all 2,097,152 of them; erased where nothing is said
+    /// Their array's bytes, all 2,097,152 of them; erased where nothing is said
     #[arg(long, value_name = "FILE")]
     image: Option<PathBuf>,
-    /// Its protection: 0 to 31, none, all, or an area as 'top 64k'
+    /// Their protection: 0 to 31, none, all, or an area as 'top 64k'
     #[arg(long, default_value = "none", value_parser = setting)]
     setting: u8,
 }
@@ -121,7 +122,7 @@ impl Add {
         };
         let array_name = self.image.as_deref().unwrap_or(Path::new("array"));
         let array = checked(array, state, array_name, array_name)?;
-        added(pool, &self.board, &self.department, (state, &array), &from)
+        added(pool, &self.boards, &self.department, (state, &array), &from)
     }
 }
 
@@ -131,7 +132,8 @@ impl Import {
         let array = files::read_up_to(&self.array, SIZE)?;
         let array = checked(array, state, &self.array, &self.state)?;
         let from = format!("from {} and {}", shown(&self.array), shown(&self.state));
-        added(pool, &self.board, &self.department, (state, &array), &from)
+        let board = std::slice::from_ref(&self.board);
+        added(pool, board, &self.department, (state, &array), &from)
     }
 }
 
@@ -178,20 +180,26 @@ pub fn fresh(name: &str, department: &str, state: State, now: &str) -> Result<Ro
 
 fn added(
     pool: &Asked,
-    name: &str,
+    names: &[String],
     department: &str,
     (state, array): (State, &[u8]),
     from: &str,
 ) -> Result<Told, Error> {
     let mut pool = pool.open()?;
-    let board = fresh(name, department, state, pool.now())?;
-    let board = pool.write(|book, _| boards::add(book, &board, array))?;
+    let now = pool.now();
+    let boards = names.iter().map(|name| fresh(name, department, state, now));
+    let boards: Vec<Row> = boards.collect::<Result<_, _>>()?;
+    pool.write(|book, _| {
+        let mut boards = boards.iter();
+        boards.try_for_each(|board| boards::add(book, board, array).map(|_| ()))
+    })?;
+    let lines = boards.iter().map(|board| {
+        let (name, department) = (&board.name, &board.department);
+        format!("{name}: a board of {department}, {from}\n")
+    });
     let registers = words::registers(state.registers);
-    let (name, department) = (&board.name, &board.department);
-    Ok(Told::new(
-        format!("{name}: a board of {department}, {from}\nregisters  {registers}\n"),
-        json(&board),
-    ))
+    let text = lines.collect::<String>() + &format!("registers  {registers}\n");
+    Ok(Told::new(text, boards.iter().map(json).collect()))
 }
 
 fn json(board: &Row) -> Value {

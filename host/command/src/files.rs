@@ -40,10 +40,8 @@ pub fn was_read(identity: Identity) -> bool {
 
 /// Notes a file that is read by other means.
 pub fn note(metadata: &Metadata) {
-    if let Ok(mut read) = READ.lock() {
-        if metadata.is_file() {
-            read.0.insert(identity(metadata));
-        }
+    if let (true, Ok(mut read)) = (metadata.is_file(), READ.lock()) {
+        read.0.insert(identity(metadata));
     }
 }
 

@@ -29,6 +29,13 @@ fn a_board_is_erased_or_an_image() {
         "{shown}"
     );
     assert_eq!(folder.json("board show c")["state"]["setting"], 17);
+    folder.fails(
+        "board add d e b --department lab",
+        2,
+        &["there is a board 'b' already"],
+    );
+    folder.served("board add d e --department lab");
+    assert!(folder.served("board list").ends_with("4 boards\n"));
 }
 
 #[test]

@@ -85,50 +85,41 @@ fn every_kill(name: &str, start: &dyn Fn(&Folder), line: &str) {
     let words: Vec<&str> = line.split_whitespace().collect();
     let before = said(&folder);
     let pool = folder.bytes("tunebriar.pool");
-    let start = Instant::now();
-    assert!(
-        folder
-            .command()
-            .args(&words)
-            .output()
-            .expect("it runs")
-            .status
-            .success()
-    );
-    // Where a call takes long, as in an emulated machine, not every kill is tried.
-    let step = if start.elapsed() > Duration::from_millis(150) {
-        5
-    } else {
-        1
-    };
+    let begun = Instant::now();
+    let output = folder.command().args(&words).output().expect("it runs");
+    assert!(output.status.success(), "{line}");
+    // Where a call takes long, as on an emulated machine, not every kill is tried.
+    let slow = begun.elapsed() > Duration::from_millis(150);
     let after = said(&folder);
     assert!(after != before);
     let names = folder.names();
     let kill = if traced() { killed } else { timed };
-    let mut kills = 0;
-    for place in (1..).step_by(step) {
+    let mut places = (1..).step_by(if slow { 5 } else { 1 });
+    let ended = places.find(|&place| {
         folder.write("tunebriar.pool", &pool);
-        let _ = fs::remove_file(folder.path.join("tunebriar.pool-journal"));
-        if !kill(&folder, &words, place) {
-            break;
-        }
-        kills += 1;
+        let _ = fs::remove_file(folder.path.join(JOURNAL));
+        let killed = kill(&folder, &words, place);
         let now = said(&folder);
         assert!(
             now == before || now == after,
             "{line}: kill {place}: a book in between"
         );
         folder.whole("2026-11");
+        let left = folder.names().into_iter().filter(|name| name != JOURNAL);
         assert_eq!(
-            folder.names(),
+            left.collect::<Vec<_>>(),
             names,
             "{line}: kill {place}: a file is left"
         );
-    }
-    assert!(kills * step > 5, "{line}: {kills} kills");
+        !killed
+    });
+    assert!(ended.is_some_and(|place| place > 5), "{line}: {ended:?}");
     assert!(said(&folder) == after, "{line}: not killed, it is done");
-    folder.whole("2026-11");
+    assert_eq!(folder.names(), names);
 }
+
+/// The journal is the book's own; the next call that changes the book ends it.
+const JOURNAL: &str = "tunebriar.pool-journal";
 
 #[test]
 fn a_play_is_whole() {
@@ -192,7 +183,7 @@ fn a_new_pool_is_whole_or_not_there() {
     folder.write("prices.txt", PRICES);
     let kill = if traced() { killed } else { timed };
     for place in 1.. {
-        for name in ["tunebriar.pool", "tunebriar.pool-journal"] {
+        for name in ["tunebriar.pool", JOURNAL] {
             let _ = fs::remove_file(folder.path.join(name));
         }
         let ended = !kill(&folder, &["pool", "new"], place);

@@ -100,10 +100,8 @@ fn what_was_ignored_is_not_billed() {
         &["bill.csv: is there already"],
     );
     folder.served("month bill 2026-11 --csv bill.csv --force");
-    let detail = folder
-        .served("month bill 2026-11 --detail --csv -")
-        .is_empty();
-    assert!(!detail);
+    let detail = folder.run("month bill 2026-11 --detail --csv -").out;
+    assert!(detail.contains("a.tape"), "{detail}");
 }
 
 /// Every way in which a book can lie is found.
