@@ -17,7 +17,7 @@ use rayon::prelude::*;
 use rusqlite::Connection;
 use serde_json::json;
 use std::fmt::Write;
-use tunebriar::{RECORD, SIZE, State};
+use tunebriar::{RECORD, State};
 
 /// How it is called.
 #[derive(Debug, Args)]
@@ -34,7 +34,7 @@ pub struct Audit {
 }
 
 /// What a board's audit came to.
-#[derive(Default)]
+#[derive(Clone, Default)]
 struct Found {
     plays: usize,
     records: usize,
@@ -45,7 +45,7 @@ struct Found {
 struct Desk {
     pool: Pool,
     chip: Chip,
-    closing: Vec<u8>,
+    closing: Chip,
 }
 
 impl Audit {
@@ -61,20 +61,20 @@ impl Audit {
             Ok((month, boards))
         })?;
         let bar = progress::bar(boards.len(), "boards");
-        let found: Result<Vec<Found>, Error> = boards
-            .par_iter()
-            .map_init(
-                || Desk::new(asked),
-                |desk, board| {
-                    let desk = desk
-                        .as_mut()
-                        .map_err(|words| Error::wrong(words.as_str()))?;
-                    desk.board(&month, board, &bar)
-                },
-            )
+        // Small parts, so that no core waits long for the others' last.
+        let at_a_desk = (boards.len() / rayon::current_num_threads() / 8).clamp(1, 64);
+        let found: Result<Vec<Vec<Found>>, Error> = boards
+            .par_chunks(at_a_desk)
+            .map(|boards| {
+                let mut desk = Desk::new(asked)?;
+                let boards = boards.iter();
+                boards
+                    .map(|board| desk.board(&month, board, &bar))
+                    .collect()
+            })
             .collect();
         bar.finish_and_clear();
-        Ok(self.told(boards.len(), &found?))
+        Ok(self.told(boards.len(), &found?.concat()))
     }
 
     fn told(&self, boards: usize, found: &[Found]) -> Told {
@@ -121,37 +121,36 @@ fn there(book: &Connection, month: &Month) -> Result<Vec<Board>, Error> {
 }
 
 impl Desk {
-    /// An error in words, since every later board of this core meets it again.
-    fn new(asked: &Asked) -> Result<Desk, String> {
+    fn new(asked: &Asked) -> Result<Desk, Error> {
         Ok(Desk {
-            pool: asked.open().map_err(|error| error.to_string())?,
+            pool: asked.open()?,
             chip: Chip::erased(State::default()),
-            closing: vec![0xFF; SIZE],
+            closing: Chip::erased(State::default()),
         })
     }
 
     fn board(&mut self, month: &Month, board: &Board, bar: &ProgressBar) -> Result<Found, Error> {
         let (chip, closing) = (&mut self.chip, &mut self.closing);
         // At one moment; what the book has by then does not change any more.
-        let (plays, ends) = self.pool.read(|book| {
-            let opening = boards::opening(book, month.id, board.id)?;
-            chip.become_other(opening, |array| {
-                sectors::load_opening(book, board.id, month.id, array)
+        let plays = self.pool.read(|book| {
+            chip.become_other(boards::opening(book, month.id, board.id)?);
+            sectors::load_opening(book, board.id, month.id, |place, bytes| {
+                chip.fill(place, bytes);
             })?;
-            let ends = closing_of(book, month, board, closing)?;
-            Ok((plays::of(book, month.id, Some(board.id))?, ends))
+            closing_of(book, month, board, closing)?;
+            plays::of(book, month.id, Some(board.id))
         })?;
         let mut found = Found::default();
         for play in &plays {
             self.pool
                 .read(|book| replayed(book, chip, play, &board.name, &mut found))?;
         }
-        if chip.state != ends {
+        if chip.state != closing.state {
             found
                 .differs
                 .push(format!("{}: its last registers or meter", board.name));
         }
-        if chip.array() != closing {
+        if chip.array() != closing.array() {
             found
                 .differs
                 .push(format!("{}: its last array", board.name));
@@ -166,16 +165,18 @@ fn closing_of(
     book: &Connection,
     month: &Month,
     board: &Board,
-    array: &mut [u8],
-) -> Result<State, Error> {
+    chip: &mut Chip,
+) -> Result<(), Error> {
     match month.closed {
         Some(_) => {
-            sectors::load_opening(book, board.id, month.id + 1, array)?;
-            boards::opening(book, month.id + 1, board.id)
+            chip.become_other(boards::opening(book, month.id + 1, board.id)?);
+            sectors::load_opening(book, board.id, month.id + 1, |place, bytes| {
+                chip.fill(place, bytes);
+            })
         }
         None => {
-            sectors::load(book, board.id, array)?;
-            Ok(boards::find(book, &board.name)?.state)
+            chip.become_other(boards::find(book, &board.name)?.state);
+            sectors::load(book, board.id, |place, bytes| chip.fill(place, bytes))
         }
     }
 }

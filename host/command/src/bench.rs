@@ -42,9 +42,9 @@ impl<'a> Bench<'a> {
     ///
     /// Where the book cannot be read.
     pub fn take(&mut self, board: Board) -> Result<(), Error> {
-        let book = self.book;
-        self.chip
-            .become_other(board.state, |array| sectors::load(book, board.id, array))?;
+        let chip = &mut self.chip;
+        chip.become_other(board.state);
+        sectors::load(self.book, board.id, |place, bytes| chip.fill(place, bytes))?;
         self.board = Some(board);
         Ok(())
     }
@@ -110,8 +110,8 @@ impl<'a> Bench<'a> {
     pub fn keep(&mut self) -> Result<(), Error> {
         let id = self.board().id;
         boards::keep(self.book, id, self.chip.state)?;
-        sectors::save(self.book, id, self.month, self.chip.array())?;
-        Ok(())
+        let mut changed = self.chip.changed();
+        changed.try_for_each(|sector| sectors::save(self.book, id, self.month, sector))
     }
 
     fn board(&self) -> &Board {

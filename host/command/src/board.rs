@@ -189,9 +189,10 @@ fn added(
     let now = pool.now();
     let boards = names.iter().map(|name| fresh(name, department, state, now));
     let boards: Vec<Row> = boards.collect::<Result<_, _>>()?;
+    let array = sectors::of(array);
     pool.write(|book, _| {
         let mut boards = boards.iter();
-        boards.try_for_each(|board| boards::add(book, board, array).map(|_| ()))
+        boards.try_for_each(|board| boards::add(book, board, &array).map(|_| ()))
     })?;
     let lines = boards.iter().map(|board| {
         let (name, department) = (&board.name, &board.department);
@@ -262,11 +263,10 @@ impl Export {
         if let Some(state) = &self.state {
             outputs.check(state)?;
         }
-        let mut array = vec![0; SIZE];
-        let board = pool.open()?.read(|book| {
+        let (board, array) = pool.open()?.read(|book| {
             let board = boards::find(book, &self.board)?;
-            sectors::load(book, board.id, &mut array)?;
-            Ok(board)
+            let array = sectors::array(book, board.id)?;
+            Ok((board, array))
         })?;
         outputs.lay(&self.array, array)?;
         let mut text = format!("{}: {} bytes\n", shown(&self.array), grouped(SIZE));

@@ -6,7 +6,10 @@
 //! registers, meter and array, or nothing is told at all. So must the library's
 //! count of the verdicts alone: what is told is billed.
 
+use crate::marks::Marks;
+use crate::pool::sectors::SECTOR;
 use crate::tally::{Outcome, Tally};
+use std::ops::Range;
 use tunebriar::{
     Meter, Part, Read, Reader, Record, Refusal, SIZE, State, Transaction, Verdict, finish,
     power_cycle, replay_first, transact,
@@ -24,6 +27,10 @@ pub struct Chip {
     pub state: State,
     replayed: Vec<u8>,
     told: Vec<u8>,
+    /// Sectors that were filled; all others were erased.
+    written: Marks,
+    /// Sectors that may have changed since.
+    changed: Marks,
 }
 
 /// A transaction that was told: its place on the tape, what was sent, what
@@ -48,23 +55,45 @@ impl Chip {
             state,
             replayed: vec![0xFF; SIZE],
             told: vec![0xFF; SIZE],
+            written: Marks::default(),
+            changed: Marks::default(),
         }
     }
 
-    /// Makes it another chip, whose array `fill` writes.
-    ///
-    /// # Errors
-    ///
-    /// Those of `fill`.
-    pub fn become_other<E>(
-        &mut self,
-        state: State,
-        fill: impl FnOnce(&mut [u8]) -> Result<(), E>,
-    ) -> Result<(), E> {
+    /// Makes it another chip, erased and in this state; what is erased already
+    /// costs nothing.
+    pub fn become_other(&mut self, state: State) {
         self.state = state;
-        fill(&mut self.replayed)?;
-        self.told.copy_from_slice(&self.replayed);
-        Ok(())
+        for place in self.written.places().chain(self.changed.places()) {
+            self.replayed[sector(place)].fill(0xFF);
+            self.told[sector(place)].fill(0xFF);
+        }
+        self.written.clear();
+        self.changed.clear();
+    }
+
+    /// Fills a sector of such a chip: these bytes, and FFs to its end.
+    pub fn fill(&mut self, place: usize, bytes: &[u8]) {
+        for array in [&mut self.replayed, &mut self.told] {
+            let (start, end) = array[sector(place)].split_at_mut(bytes.len());
+            start.copy_from_slice(bytes);
+            end.fill(0xFF);
+        }
+        self.written.mark(place);
+    }
+
+    /// The sectors that may have changed.
+    ///
+    /// # Panics
+    ///
+    /// Where the replays and the records do not agree, which is proved not to
+    /// be.
+    pub fn changed(&self) -> impl Iterator<Item = (usize, &[u8])> {
+        self.changed.places().map(|place| {
+            let (replayed, told) = (&self.replayed[sector(place)], &self.told[sector(place)]);
+            assert!(replayed == told, "{DISAGREE}");
+            (place, replayed)
+        })
     }
 
     /// The array.
@@ -111,6 +140,7 @@ impl Chip {
             state: before,
             meter: before.meter,
             array: &mut self.told,
+            changed: &mut self.changed,
             tally: Tally::default(),
         };
         let mut reader = Reader::new(tape);
@@ -128,6 +158,11 @@ impl Chip {
     }
 }
 
+/// The bytes of a sector.
+fn sector(place: usize) -> Range<usize> {
+    place * SECTOR..(place + 1) * SECTOR
+}
+
 const DISAGREE: &str = "the replay and its records do not agree: nothing is told";
 
 /// A tape between two of its records.
@@ -136,6 +171,7 @@ struct Telling<'a> {
     /// What the verdicts alone come to.
     meter: Meter,
     array: &'a mut [u8],
+    changed: &'a mut Marks,
     tally: Tally,
 }
 
@@ -172,6 +208,9 @@ impl Telling<'_> {
         self.state = state;
         self.meter.count(PART, verdict)?;
         self.tally.count(record, sent.bytes, verdict);
+        if let Verdict::CarriedOut(kind) = verdict {
+            self.changed.carried_out(kind, sent.bytes);
+        }
         let out = &out[..sent.bytes.len()];
         hear(&Heard {
             record,

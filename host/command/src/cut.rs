@@ -123,11 +123,9 @@ mod tests {
     /// Plays the jobs on an array; programs and erases.
     fn played(array: &[u8], jobs: &[Job]) -> (Vec<u8>, u32, u32) {
         let mut chip = Chip::erased(State::default());
-        let filled: Result<(), ()> = chip.become_other(State::default(), |own| {
-            own.copy_from_slice(array);
-            Ok(())
-        });
-        filled.expect("filled");
+        for (place, sector) in array.chunks_exact(SECTOR).enumerate() {
+            chip.fill(place, sector);
+        }
         for job in jobs {
             let done = translated(0, &job.records, &job.payload).expect("a good job");
             let outcome = chip.play(&done.tape).expect("a good tape");

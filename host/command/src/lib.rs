@@ -24,6 +24,7 @@ pub mod job_text;
 pub mod ledger;
 pub mod lines;
 pub mod list;
+pub mod marks;
 pub mod month;
 pub mod names;
 pub mod numbers;

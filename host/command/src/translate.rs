@@ -117,7 +117,8 @@ impl Start {
         let mut chip = Chip::erased(State::default());
         pool.open()?.read(|book| {
             let board = boards::find(book, name)?;
-            chip.become_other(board.state, |array| sectors::load(book, board.id, array))
+            chip.become_other(board.state);
+            sectors::load(book, board.id, |place, bytes| chip.fill(place, bytes))
         })?;
         Ok(Some((format!("board {name}"), chip)))
     }

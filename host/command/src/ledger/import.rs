@@ -9,7 +9,7 @@ use crate::numbers::grouped;
 use crate::play::refused;
 use crate::pool::boards::{self, Board as Kept};
 use crate::pool::plays::LONGEST_TAPE;
-use crate::pool::{Asked, months};
+use crate::pool::{Asked, months, sectors};
 use crate::sha256::{hex, sha256};
 use crate::told::Told;
 use crate::{clock, files, month, progress, state_file};
@@ -137,7 +137,7 @@ impl Import {
         let bytes = checked(bytes, state, array, state_path).map_err(here)?;
         let fresh = fresh(&board.name, &board.department, state, now).map_err(here)?;
         done.added += 1;
-        boards::add(book, &fresh, &bytes).map_err(here)
+        boards::add(book, &fresh, &sectors::of(&bytes)).map_err(here)
     }
 
     fn row(&self, bench: &mut Bench, number: i64, row: &Row, done: &mut Done) -> Result<(), Error> {

@@ -109,13 +109,13 @@ pub fn find(book: &Connection, name: &str) -> Result<Board, Error> {
     })
 }
 
-/// Brings a board into the book, with its array. It is looked at before: its
+/// Brings a board into the book, with its array's sectors. It is looked at before: its
 /// names are good, and the library would play on it.
 ///
 /// # Errors
 ///
 /// Where its name is taken, or the book cannot be changed.
-pub fn add(book: &Connection, board: &Board, array: &[u8]) -> Result<Board, Error> {
+pub fn add(book: &Connection, board: &Board, array: &[(usize, &[u8])]) -> Result<Board, Error> {
     if named(book, &board.name)?.is_some() {
         return Err(Error::wrong(format_args!(
             "there is a board '{}' already",

@@ -2,7 +2,7 @@
 //! a month began.
 
 use crate::error::Error;
-use rusqlite::{Connection, OptionalExtension};
+use rusqlite::{Connection, OptionalExtension, Row};
 use tunebriar::SIZE;
 
 /// Bytes of a sector.
@@ -10,22 +10,24 @@ pub const SECTOR: usize = 4_096;
 /// A sector after an erase.
 const ERASED: [u8; SECTOR] = [0xFF; SECTOR];
 
-/// A board's array as it is now, into a buffer of the chip's size.
+/// A board's array as it is now: `put` gets the sectors that are not erased,
+/// each with its bytes up to the FFs at its end.
 ///
 /// # Errors
 ///
 /// Where the book cannot be read.
-pub fn load(book: &Connection, board: i64, array: &mut [u8]) -> Result<(), Error> {
-    fill(
-        book,
-        "SELECT place, bytes FROM sector WHERE board = ?1",
-        [board],
-        array,
-    )
+pub fn load(book: &Connection, board: i64, mut put: impl FnMut(usize, &[u8])) -> Result<(), Error> {
+    let mut rows = book.prepare_cached("SELECT place, bytes FROM sector WHERE board = ?1")?;
+    let mut rows = rows.query([board])?;
+    while let Some(row) = rows.next()? {
+        one(row, &mut put)?;
+    }
+    Ok(())
 }
 
 /// A board's array as it was when a month began: of each sector the oldest that
-/// was kept since then, or else what it is now.
+/// was kept since then, or else what it is now. The last that `put` gets of a
+/// sector counts.
 ///
 /// # Errors
 ///
@@ -34,44 +36,43 @@ pub fn load_opening(
     book: &Connection,
     board: i64,
     month: i64,
-    array: &mut [u8],
+    mut put: impl FnMut(usize, &[u8]),
 ) -> Result<(), Error> {
-    load(book, board, array)?;
+    load(book, board, &mut put)?;
     let mut rows = book.prepare_cached(
         "SELECT place, bytes FROM opening_sector WHERE board = ?1 AND month >= ?2 \
          ORDER BY month DESC",
     )?;
     let mut rows = rows.query([board, month])?;
-    // The oldest comes last, and stays.
     while let Some(row) = rows.next()? {
-        put(array, row.get(0)?, row.get_ref(1)?.as_blob().unwrap_or(&[]))?;
+        one(row, &mut put)?;
     }
     Ok(())
 }
 
-fn fill<P: rusqlite::Params>(
-    book: &Connection,
-    query: &str,
-    of: P,
-    array: &mut [u8],
-) -> Result<(), Error> {
-    array.fill(0xFF);
-    let mut rows = book.prepare_cached(query)?;
-    let mut rows = rows.query(of)?;
-    while let Some(row) = rows.next()? {
-        put(array, row.get(0)?, row.get_ref(1)?.as_blob().unwrap_or(&[]))?;
-    }
-    Ok(())
-}
-
-fn put(array: &mut [u8], place: usize, bytes: &[u8]) -> Result<(), Error> {
-    let sector = array.chunks_exact_mut(SECTOR).nth(place);
-    let Some(sector) = sector.filter(|_| bytes.len() <= SECTOR) else {
+fn one(row: &Row, put: &mut impl FnMut(usize, &[u8])) -> Result<(), Error> {
+    let (place, bytes) = (
+        row.get::<_, usize>(0)?,
+        row.get_ref(1)?.as_blob().unwrap_or(&[]),
+    );
+    if place >= SIZE / SECTOR || bytes.len() > SECTOR {
         return Err(Error::wrong("the pool: a sector that no chip has"));
-    };
-    sector[..bytes.len()].copy_from_slice(bytes);
-    sector[bytes.len()..].fill(0xFF);
+    }
+    put(place, bytes);
     Ok(())
+}
+
+/// A board's whole array.
+///
+/// # Errors
+///
+/// Where the book cannot be read.
+pub fn array(book: &Connection, board: i64) -> Result<Vec<u8>, Error> {
+    let mut array = vec![0xFF; SIZE];
+    load(book, board, |place, bytes| {
+        array[place * SECTOR..][..bytes.len()].copy_from_slice(bytes);
+    })?;
+    Ok(array)
 }
 
 /// A sector as it is kept: without the FFs at its end.
@@ -80,42 +81,37 @@ fn kept(sector: &[u8]) -> &[u8] {
     &sector[..end.map_or(0, |last| last + 1)]
 }
 
-/// Keeps an array: the sectors that differ from the book's, and for each what
-/// it was when the month began, if that is not kept yet. Says how many.
+/// Keeps a sector, if it differs from the book's, and what it was when the
+/// month began, if that is not kept yet.
 ///
 /// # Errors
 ///
 /// Where the book cannot be changed.
-pub fn save(book: &Connection, board: i64, month: i64, array: &[u8]) -> Result<usize, Error> {
-    let mut changed = Vec::new();
-    {
-        let query = "SELECT place, bytes FROM sector WHERE board = ?1 ORDER BY place";
-        let mut rows = book.prepare_cached(query)?;
-        let mut rows = rows.query([board])?;
-        let mut next = rows.next()?;
-        for (place, sector) in array.chunks_exact(SECTOR).enumerate() {
-            let here = match next {
-                Some(row) if row.get::<_, usize>(0)? == place => Some(row),
-                _ => None,
-            };
-            let was = here.map_or(Ok(&[][..]), |row| row.get_ref(1)?.as_blob().map_err(wrong));
-            if !same(sector, was?) {
-                changed.push(place);
-            }
-            if here.is_some() {
-                next = rows.next()?;
-            }
-        }
+pub fn save(
+    book: &Connection,
+    board: i64,
+    month: i64,
+    (place, sector): (usize, &[u8]),
+) -> Result<(), Error> {
+    let mut was =
+        book.prepare_cached("SELECT bytes FROM sector WHERE board = ?1 AND place = ?2")?;
+    let was: Option<Vec<u8>> = was.query_row((board, place), |row| row.get(0)).optional()?;
+    let was = was.unwrap_or_default();
+    if same(sector, &was) {
+        return Ok(());
     }
-    for &place in &changed {
-        let sector = kept(&array[place * SECTOR..][..SECTOR]);
-        replace(book, board, month, place, sector)?;
-    }
-    Ok(changed.len())
-}
-
-fn wrong(error: rusqlite::types::FromSqlError) -> rusqlite::Error {
-    rusqlite::Error::FromSqlConversionFailure(1, rusqlite::types::Type::Blob, Box::new(error))
+    book.prepare_cached("INSERT OR IGNORE INTO opening_sector VALUES (?1, ?2, ?3, ?4)")?
+        .execute((board, place, month, was))?;
+    let bytes = kept(sector);
+    match bytes.is_empty() {
+        true => book
+            .prepare_cached("DELETE FROM sector WHERE board = ?1 AND place = ?2")?
+            .execute((board, place))?,
+        false => book
+            .prepare_cached("INSERT OR REPLACE INTO sector VALUES (?1, ?2, ?3)")?
+            .execute((board, place, bytes))?,
+    };
+    Ok(())
 }
 
 /// Whether a sector is what is kept of it, and FFs.
@@ -124,31 +120,14 @@ fn same(sector: &[u8], was: &[u8]) -> bool {
     start == was && end == &ERASED[..end.len()]
 }
 
-fn replace(
-    book: &Connection,
-    board: i64,
-    month: i64,
-    place: usize,
-    sector: &[u8],
-) -> Result<(), Error> {
-    let mut was =
-        book.prepare_cached("SELECT bytes FROM sector WHERE board = ?1 AND place = ?2")?;
-    let was: Option<Vec<u8>> = was.query_row((board, place), |row| row.get(0)).optional()?;
-    let mut keep = book.prepare_cached(
-        "INSERT OR IGNORE INTO opening_sector (board, place, month, bytes) VALUES (?1, ?2, ?3, ?4)",
-    )?;
-    keep.execute((board, place, month, was.unwrap_or_default()))?;
-    match sector.is_empty() {
-        true => book
-            .prepare_cached("DELETE FROM sector WHERE board = ?1 AND place = ?2")?
-            .execute((board, place))?,
-        false => book
-            .prepare_cached(
-                "INSERT OR REPLACE INTO sector (board, place, bytes) VALUES (?1, ?2, ?3)",
-            )?
-            .execute((board, place, sector))?,
-    };
-    Ok(())
+/// The sectors of an array that are not erased, as they are kept.
+#[must_use]
+pub fn of(array: &[u8]) -> Vec<(usize, &[u8])> {
+    let sectors = array.chunks_exact(SECTOR).enumerate();
+    let written = sectors.filter(|(_, sector)| *sector != ERASED);
+    written
+        .map(|(place, sector)| (place, kept(sector)))
+        .collect()
 }
 
 /// The array of a board that is new; nothing of it was there before.
@@ -156,14 +135,10 @@ fn replace(
 /// # Errors
 ///
 /// Where the book cannot be changed.
-pub fn first(book: &Connection, board: i64, array: &[u8]) -> Result<(), Error> {
-    assert_eq!(array.len(), SIZE, "the library has looked at it");
-    let mut insert =
-        book.prepare_cached("INSERT INTO sector (board, place, bytes) VALUES (?1, ?2, ?3)")?;
-    for (place, sector) in array.chunks_exact(SECTOR).enumerate() {
-        if sector != ERASED {
-            insert.execute((board, place, kept(sector)))?;
-        }
+pub fn first(book: &Connection, board: i64, sectors: &[(usize, &[u8])]) -> Result<(), Error> {
+    let mut insert = book.prepare_cached("INSERT INTO sector VALUES (?1, ?2, ?3)")?;
+    for (place, bytes) in sectors {
+        insert.execute((board, place, bytes))?;
     }
     Ok(())
 }

@@ -100,6 +100,35 @@ fn a_refused_tape_is_kept_and_bills_nothing() {
     folder.whole("2026-11");
 }
 
+/// Every unit that a command changes is kept, and no other.
+#[test]
+fn every_unit_is_kept() {
+    let folder = Folder::with_month("units");
+    let full: Vec<u8> = (0..SIZE).map(|place| (place % 251) as u8).collect();
+    folder.write("full.bin", &full);
+    folder.served("board add f --department lab --image full.bin");
+    let mut wanted = full;
+    for (name, sent, span) in [
+        ("20", &[0x20, 0x01, 0x2F, 0xFF][..], 0x12000..0x13000),
+        ("52", &[0x52, 0x1F, 0x80, 0x01], 0x1F8000..0x200000),
+        ("D8", &[0xD8, 0xE8, 0x12, 0x34], 0x80000..0x90000),
+        ("60", &[0x60], 0..SIZE),
+    ] {
+        let tape = [
+            record(0, 8, &[6]),
+            record(0, 8, sent),
+            record(1, 0, &[]),
+            program(0xFF, 0x5A),
+        ];
+        folder.write(name, tape.concat());
+        folder.served(&format!("play f {name}"));
+        wanted[span].fill(0xFF);
+        wanted[0xFF00] &= 0x5A;
+        assert!(folder.array("f") == wanted, "{name}");
+    }
+    folder.whole("2026-11");
+}
+
 #[test]
 fn transactions_are_shown_and_kept() {
     let folder = Folder::with_month("transact");
