@@ -40,7 +40,7 @@ typedef struct {
 
 /* The meter, kept by the caller: programs, erases, register writes, ignored. */
 typedef struct {
-    uint32_t programs, erases, writes, ignored;
+    uint32_t programs, erases, register_writes, ignored;
 } tb_meter;
 
 /*
@@ -80,7 +80,7 @@ typedef struct {
 typedef struct {
     uint32_t number;
     uint64_t index;
-    uint32_t programs, erases, writes;
+    uint32_t programs, erases, register_writes;
     uint64_t length;
 } tb_bill;
 
@@ -117,8 +117,9 @@ tb_event tb_power_cycle(uint32_t part, tb_regs regs);
  * Brings the caller's meter up to date where it lies, by what a transaction
  * answered: its `number`, and the first byte `op` that it was sent (any number
  * if none was). After 0, op 02 adds one to programs; 20, 52, D8, C7 or 60 one to
- * erases; 01 one to writes. After 10 to 16, one more is ignored. Nothing else
- * counts. So the meter handed to tb_transact becomes the one that it answers.
+ * erases; 01 one to register_writes. After 10 to 16, one more is ignored.
+ * Nothing else counts. So the meter handed to tb_transact becomes the one that
+ * it answers.
  * The answer is 0 or the refusal. Refusals 1, 7.
  */
 uint32_t tb_count(uint32_t part, tb_meter *meter, uint32_t number, uint32_t op);

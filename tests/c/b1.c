@@ -19,9 +19,9 @@ static void expect(const char *what, unsigned long long got, unsigned long long 
 static void expect_meter(const char *what, tb_meter got, tb_meter expected)
 {
     int same = got.programs == expected.programs && got.erases == expected.erases &&
-               got.writes == expected.writes && got.ignored == expected.ignored;
+               got.register_writes == expected.register_writes && got.ignored == expected.ignored;
     printf("%-4s %s: %u %u %u %u\n", same ? "ok" : "FAIL", what, (unsigned)got.programs,
-           (unsigned)got.erases, (unsigned)got.writes, (unsigned)got.ignored);
+           (unsigned)got.erases, (unsigned)got.register_writes, (unsigned)got.ignored);
     failed += !same;
 }
 
@@ -41,7 +41,7 @@ static void b1(uint8_t *array)
     expect("B1 output past n", out[1], 0x55);
     expect("B1 programs", a.meter.programs, 1);
     expect("B1 erases", a.meter.erases, 2);
-    expect("B1 writes", a.meter.writes, 3);
+    expect("B1 register writes", a.meter.register_writes, 3);
     expect("B1 ignored", a.meter.ignored, 4);
     expect("B1 count", tb_count(1, &meter, a.number, bytes[0]), 0);
     expect_meter("B1 counted", meter, a.meter);

@@ -57,7 +57,7 @@ static void add_answer(tb_answer a)
     add(a.number);
     add(a.index);
     add(a.regs.status);
-    add(a.meter.programs + a.meter.erases + a.meter.writes + a.meter.ignored);
+    add(a.meter.programs + a.meter.erases + a.meter.register_writes + a.meter.ignored);
 }
 
 static const uint8_t codes[] = {0x06, 0x04, 0x05, 0x35, 0x01, 0x03, 0x0B, 0x02, 0x20,
@@ -157,7 +157,7 @@ static void meters(yard in, int at_end)
                     add(tb_count(part, meter, numbers[n], op));
                     add(meter->programs);
                     add(meter->erases);
-                    add(meter->writes);
+                    add(meter->register_writes);
                     add(meter->ignored);
                     for (size_t i = 0; i < GUARD; i++)
                         broken += guard[i] != 0xA5;

@@ -264,7 +264,7 @@ fn full_meters(twin: &mut Twin, rng: &mut Rng) -> Checked {
         let meter = Meter {
             programs: count(),
             erases: count(),
-            writes: count(),
+            register_writes: count(),
             ignored: count(),
         };
         let mut kept = Kept {

@@ -199,7 +199,7 @@ pub fn meter_of(meter: ffi::Meter) -> second::Meter {
     second::Meter {
         programs: meter.programs,
         erases: meter.erases,
-        writes: meter.writes,
+        register_writes: meter.register_writes,
         ignored: meter.ignored,
     }
 }
@@ -209,7 +209,7 @@ pub(crate) fn lent_meter(meter: second::Meter) -> ffi::Meter {
     ffi::Meter {
         programs: meter.programs,
         erases: meter.erases,
-        writes: meter.writes,
+        register_writes: meter.register_writes,
         ignored: meter.ignored,
     }
 }
@@ -233,7 +233,7 @@ pub(crate) fn bill_of(bill: ffi::Bill) -> second::Bill {
         index: bill.index,
         programs: bill.programs,
         erases: bill.erases,
-        writes: bill.writes,
+        register_writes: bill.register_writes,
         length: bill.length,
     }
 }

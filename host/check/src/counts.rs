@@ -19,7 +19,7 @@ pub const PLAN: Plan = Plan::new("counts", 20, hostile);
 const SOME: Meter = Meter {
     programs: 11,
     erases: 22,
-    writes: 33,
+    register_writes: 33,
     ignored: 44,
 };
 
@@ -71,7 +71,12 @@ fn counting(meter: Meter, (number, op): (u32, u32)) -> Counting {
 
 /// [`SOME`] with one more at one of its counts.
 fn one_more(which: usize) -> Meter {
-    let mut all = [SOME.programs, SOME.erases, SOME.writes, SOME.ignored];
+    let mut all = [
+        SOME.programs,
+        SOME.erases,
+        SOME.register_writes,
+        SOME.ignored,
+    ];
     all[which] += 1;
     counts(all)
 }

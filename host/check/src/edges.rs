@@ -50,11 +50,11 @@ fn expect(twin: &mut Twin, call: &Call, number: u32) -> Checked<second::Answer> 
 
 /// Four counts, in the meter's order.
 pub(crate) fn counts(counts: [u32; 4]) -> Meter {
-    let [programs, erases, writes, ignored] = counts;
+    let [programs, erases, register_writes, ignored] = counts;
     Meter {
         programs,
         erases,
-        writes,
+        register_writes,
         ignored,
     }
 }

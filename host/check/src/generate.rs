@@ -197,7 +197,7 @@ pub fn meter(rng: &mut Rng) -> Meter {
     Meter {
         programs: count(),
         erases: count(),
-        writes: count(),
+        register_writes: count(),
         ignored: count(),
     }
 }

@@ -183,7 +183,7 @@ fn play(twin: &mut Twin, job: &Job, tape: &[u8], kept: Kept, bill: second::Bill)
     let risen = Meter {
         programs: kept.meter.programs + bill.programs,
         erases: kept.meter.erases + bill.erases,
-        writes: kept.meter.writes + bill.writes,
+        register_writes: kept.meter.register_writes + bill.register_writes,
         ignored: kept.meter.ignored,
     };
     same("the rise is the quote", &Kept::from(answer).meter, &risen)

@@ -48,7 +48,7 @@ impl Due<'_> {
 fn kept(due: &Due) -> Kept {
     let mut meter = Meter::default();
     if due.is(7) {
-        meter.writes = FULL;
+        meter.register_writes = FULL;
     }
     let status = if due.is(3) { 0x0403 } else { 0x0002 };
     Kept {

@@ -56,7 +56,7 @@ const CODES: [u8; 17] = [
 const KINDS: [&str; 5] = ["transaction", "finish", "power cycle", "end", "fault"];
 
 /// The counts of a meter; `tb_count` must raise each at least once.
-const COUNTS: [&str; 4] = ["programs", "erases", "writes", "ignored"];
+const COUNTS: [&str; 4] = ["programs", "erases", "register_writes", "ignored"];
 
 /// How many entries there are.
 const ENTRIES: usize = 9;
@@ -139,7 +139,12 @@ impl Reached {
 }
 
 fn counts(meter: Meter) -> [u32; 4] {
-    [meter.programs, meter.erases, meter.writes, meter.ignored]
+    [
+        meter.programs,
+        meter.erases,
+        meter.register_writes,
+        meter.ignored,
+    ]
 }
 
 #[cfg(test)]
@@ -172,7 +177,7 @@ mod tests {
         reached.counted(before, after);
         assert_eq!(reached.raised, [0, 1, 0, 1]);
         let goals = reached.goals(false);
-        assert!(goals.contains(&("Count raised writes".to_string(), 0)));
+        assert!(goals.contains(&("Count raised register_writes".to_string(), 0)));
         assert!(goals.contains(&("Count raised ignored".to_string(), 1)));
     }
 }

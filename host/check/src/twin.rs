@@ -19,7 +19,7 @@ const WHOLE_EVERY: u64 = 4_096;
 const GUARD: ffi::Meter = ffi::Meter {
     programs: 0x5A5A_5A5A,
     erases: 0xA5A5_A5A5,
-    writes: 0x3C3C_3C3C,
+    register_writes: 0x3C3C_3C3C,
     ignored: 0xC3C3_C3C3,
 };
 

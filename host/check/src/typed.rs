@@ -52,7 +52,7 @@ fn typed_meter(meter: ffi::Meter) -> Meter {
     Meter {
         programs: meter.programs,
         erases: meter.erases,
-        register_writes: meter.writes,
+        register_writes: meter.register_writes,
         ignored: meter.ignored,
     }
 }
@@ -61,7 +61,7 @@ fn untyped_meter(meter: Meter) -> second::Meter {
     second::Meter {
         programs: meter.programs,
         erases: meter.erases,
-        writes: meter.register_writes,
+        register_writes: meter.register_writes,
         ignored: meter.ignored,
     }
 }
@@ -224,7 +224,7 @@ fn job(rng: &mut Rng) -> Checked {
     same("quote", &number, &(expected.number, expected.index))?;
     let bill = got.unwrap_or_default();
     let rises = [bill.programs, bill.erases, bill.register_writes];
-    let numbers = [expected.programs, expected.erases, expected.writes];
+    let numbers = [expected.programs, expected.erases, expected.register_writes];
     same("rises", &(rises, bill.tape), &(numbers, expected.length))?;
     let mut tape = vec![1; bill.tape as usize];
     let written = tunebriar::translate(PART, setting, steps, payload, &mut tape);

@@ -1,18 +1,61 @@
-//! Files are read whole, and written whole or not at all.
+//! What is read: whole, in part, or from standard input for `-`.
+//!
+//! Each file that a call reads is noted, so that none becomes its output.
 
 use crate::error::Error;
-use std::fs::{self, File};
-use std::io::{ErrorKind, Read, Write};
-use std::path::{Path, PathBuf};
-use std::sync::atomic::{AtomicU32, Ordering};
+use std::collections::BTreeSet;
+use std::fs::{File, Metadata};
+use std::io::{ErrorKind, Read, Seek, SeekFrom};
+use std::os::unix::fs::MetadataExt;
+use std::path::Path;
+use std::sync::Mutex;
 
-/// A file's bytes.
+/// One name for a file, however it is called: its device and its number there.
+pub type Identity = (u64, u64);
+
+/// The most bytes that a text has.
+const LONGEST_TEXT: usize = 64 << 20;
+
+/// What this call has read so far; the flag is for standard input.
+static READ: Mutex<(BTreeSet<Identity>, bool)> = Mutex::new((BTreeSet::new(), false));
+
+/// A new call has read nothing yet.
+pub fn forget() {
+    if let Ok(mut read) = READ.lock() {
+        *read = (BTreeSet::new(), false);
+    }
+}
+
+/// A file's identity.
+#[must_use]
+pub fn identity(metadata: &Metadata) -> Identity {
+    (metadata.dev(), metadata.ino())
+}
+
+/// Whether this call has read the file.
+#[must_use]
+pub fn was_read(identity: Identity) -> bool {
+    READ.lock().is_ok_and(|read| read.0.contains(&identity))
+}
+
+/// Notes a file that is read by other means.
+pub fn note(metadata: &Metadata) {
+    if let (true, Ok(mut read)) = (metadata.is_file(), READ.lock()) {
+        read.0.insert(identity(metadata));
+    }
+}
+
+/// A file's bytes, `most` of them at the most.
 ///
 /// # Errors
 ///
-/// Where it cannot be read.
-pub fn read(path: &Path) -> Result<Vec<u8>, Error> {
-    fs::read(path).map_err(|error| unreadable(path, &error))
+/// Where it cannot be read, or has more.
+pub fn read(path: &Path, most: usize) -> Result<Vec<u8>, Error> {
+    let bytes = read_up_to(path, most)?;
+    match bytes.len() > most {
+        true => Err(Error::file(path, format_args!("has over {most} bytes"))),
+        false => Ok(bytes),
+    }
 }
 
 /// A file's bytes, but one more than `most` at the most: a file of the wrong
@@ -23,184 +66,88 @@ pub fn read(path: &Path) -> Result<Vec<u8>, Error> {
 /// Where it cannot be read.
 pub fn read_up_to(path: &Path, most: usize) -> Result<Vec<u8>, Error> {
     let mut bytes = Vec::new();
-    File::open(path)
-        .and_then(|file| file.take(most as u64 + 1).read_to_end(&mut bytes))
-        .map_err(|error| unreadable(path, &error))?;
+    let most = most as u64 + 1;
+    let taken = match path == Path::new("-") {
+        true => standard_input(path)?.take(most).read_to_end(&mut bytes),
+        false => open(path)?.take(most).read_to_end(&mut bytes),
+    };
+    taken.map_err(|error| unreadable(path, &error))?;
     Ok(bytes)
 }
 
-/// A file's text.
+/// A file's `length` bytes from a place on; nothing else of it is read.
+///
+/// # Errors
+///
+/// Where it cannot be read, or has fewer.
+pub fn part(path: &Path, at: u64, length: usize) -> Result<Vec<u8>, Error> {
+    let mut bytes = Vec::new();
+    let mut file = open(path)?;
+    file.seek(SeekFrom::Start(at))
+        .and_then(|_| file.take(length as u64).read_to_end(&mut bytes))
+        .map_err(|error| unreadable(path, &error))?;
+    match bytes.len() < length {
+        true => Err(Error::file(
+            path,
+            format_args!("ends before place {}", at + length as u64),
+        )),
+        false => Ok(bytes),
+    }
+}
+
+/// A file's text, without a byte order mark.
 ///
 /// # Errors
 ///
 /// Where it cannot be read, or is not UTF-8.
 pub fn text(path: &Path) -> Result<String, Error> {
-    String::from_utf8(read(path)?).map_err(|_| Error::file(path, "this is not a text file"))
+    let text = String::from_utf8(read(path, LONGEST_TEXT)?);
+    let text = text.map_err(|_| Error::file(path, "this is not a text file in UTF-8"))?;
+    Ok(text.trim_start_matches('\u{FEFF}').to_string())
+}
+
+/// That a file can be read, before any work is done.
+///
+/// # Errors
+///
+/// Where it cannot.
+pub fn readable(path: &Path) -> Result<Metadata, Error> {
+    let file = open(path)?;
+    file.metadata().map_err(|error| unreadable(path, &error))
+}
+
+fn open(path: &Path) -> Result<File, Error> {
+    let opened = File::open(path).and_then(|file| Ok((file.metadata()?, file)));
+    let (metadata, file) = opened.map_err(|error| unreadable(path, &error))?;
+    if metadata.is_dir() {
+        return Err(Error::file(path, "cannot be read: it is a folder"));
+    }
+    note(&metadata);
+    Ok(file)
+}
+
+fn standard_input(path: &Path) -> Result<std::io::Stdin, Error> {
+    let before = READ
+        .lock()
+        .map(|mut read| std::mem::replace(&mut read.1, true));
+    match before {
+        Ok(false) => Ok(std::io::stdin()),
+        _ => Err(Error::file(path, "standard input is read once only")),
+    }
 }
 
 fn unreadable(path: &Path, error: &std::io::Error) -> Error {
-    Error::file(path, format!("cannot be read: {}", plain(error)))
-}
-
-fn unwritable(path: &Path, error: &std::io::Error) -> Error {
-    Error::file(path, format!("cannot be written: {}", plain(error)))
+    Error::file(path, format_args!("cannot be read: {}", plain(error)))
 }
 
 /// The system's words without its number, where we have better ones.
-fn plain(error: &std::io::Error) -> String {
+#[must_use]
+pub fn plain(error: &std::io::Error) -> String {
     match error.kind() {
         ErrorKind::NotFound => "no such file or folder".to_string(),
         ErrorKind::PermissionDenied => "not allowed".to_string(),
         ErrorKind::IsADirectory => "it is a folder".to_string(),
+        ErrorKind::StorageFull => "no room is left".to_string(),
         _ => error.to_string(),
-    }
-}
-
-/// One name for a file, however it is called. A link is followed, so that what
-/// it points to is replaced, not the link; of a file that is not there yet, the
-/// folder is.
-#[must_use]
-pub fn real(path: &Path) -> PathBuf {
-    let beside = || {
-        let folder = match path.parent()? {
-            folder if folder.as_os_str().is_empty() => Path::new("."),
-            folder => folder,
-        };
-        Some(fs::canonicalize(folder).ok()?.join(path.file_name()?))
-    };
-    let there = fs::canonicalize(path).ok();
-    there.or_else(beside).unwrap_or_else(|| path.to_path_buf())
-}
-
-/// New contents that lie beside their files until all of them are there.
-///
-/// A killed run leaves the old files whole; a failed one also removes what it
-/// had laid beside them.
-#[derive(Debug, Default)]
-pub struct Staged {
-    files: Vec<Beside>,
-    spared: Vec<PathBuf>,
-}
-
-#[derive(Debug)]
-struct Beside {
-    path: PathBuf,
-    fresh: PathBuf,
-    old: PathBuf,
-}
-
-/// Tells apart what one process lays beside the same file.
-static LAID: AtomicU32 = AtomicU32::new(0);
-
-impl Beside {
-    fn of(path: &Path) -> Result<Beside, Error> {
-        let Some(name) = path.file_name() else {
-            return Err(Error::file(path, "cannot be written: this is no file name"));
-        };
-        let path = real(path);
-        let place = LAID.fetch_add(1, Ordering::Relaxed);
-        let name = path.file_name().unwrap_or(name).to_string_lossy();
-        let beside = |end: &str| {
-            let process = std::process::id();
-            path.with_file_name(format!(".{name}.{process}-{place}.{end}"))
-        };
-        let (fresh, old) = (beside("new"), beside("old"));
-        Ok(Beside { path, fresh, old })
-    }
-
-    fn write(&self, bytes: &[u8]) -> std::io::Result<()> {
-        let mut file = File::create_new(&self.fresh)?;
-        file.write_all(bytes)?;
-        if let Ok(there) = fs::metadata(&self.path) {
-            file.set_permissions(there.permissions())?;
-        }
-        file.sync_all()
-    }
-
-    /// Puts the new file in the old one's place, and keeps the old one.
-    fn exchange(&self) -> std::io::Result<()> {
-        if self.path.is_file() {
-            // Not every file system has hard links.
-            fs::hard_link(&self.path, &self.old)
-                .or_else(|_| fs::copy(&self.path, &self.old).map(|_| ()))?;
-        }
-        fs::rename(&self.fresh, &self.path)
-    }
-
-    /// What `exchange` did, undone.
-    fn restore(&self) {
-        let _ = match self.old.exists() {
-            true => fs::rename(&self.old, &self.path),
-            false => fs::remove_file(&self.path),
-        };
-    }
-}
-
-impl Staged {
-    /// For a call that makes files from these: none of them may be among what
-    /// it writes.
-    #[must_use]
-    pub fn sparing(sources: &[&Path]) -> Staged {
-        Staged {
-            files: Vec::new(),
-            spared: sources.iter().map(|source| real(source)).collect(),
-        }
-    }
-
-    /// Lays the new contents of a file beside it.
-    ///
-    /// # Errors
-    ///
-    /// Where they cannot be written.
-    pub fn lay(&mut self, path: &Path, bytes: &[u8]) -> Result<(), Error> {
-        let beside = Beside::of(path)?;
-        if self.spared.contains(&beside.path) {
-            return Err(Error::file(
-                path,
-                "would be replaced by what is made from it",
-            ));
-        }
-        if self.files.iter().any(|other| other.path == beside.path) {
-            return Err(Error::file(path, "would be written twice by this call"));
-        }
-        let written = beside.write(bytes);
-        self.files.push(beside);
-        written.map_err(|error| unwritable(path, &error))
-    }
-
-    /// Takes over what another has laid.
-    pub fn join(&mut self, mut other: Staged) {
-        self.files.append(&mut other.files);
-    }
-
-    /// Every new file takes its place; where one cannot, those before it are
-    /// put back.
-    ///
-    /// # Errors
-    ///
-    /// Where some file cannot be replaced.
-    pub fn commit(self) -> Result<(), Error> {
-        for (done, file) in self.files.iter().enumerate() {
-            let Err(error) = file.exchange() else {
-                continue;
-            };
-            let _ = fs::remove_file(&file.old);
-            self.files[..done].iter().for_each(Beside::restore);
-            return Err(unwritable(&file.path, &error));
-        }
-        for file in &self.files {
-            let _ = fs::remove_file(&file.old);
-        }
-        Ok(())
-    }
-}
-
-impl Drop for Staged {
-    /// Nothing new stays beside the files, whatever happened. An old file that
-    /// could not be put back does: it may be the only one.
-    fn drop(&mut self) {
-        for file in &self.files {
-            let _ = fs::remove_file(&file.fresh);
-        }
     }
 }

@@ -1,21 +1,19 @@
 //! `tunebriar job`: a text into job and payload, and back.
 
-use crate::args::{Args, Shape};
-use crate::error::Error;
-use crate::files::{self, Staged};
+use crate::error::{Error, shown};
+use crate::files;
 use crate::job_back;
-use crate::job_text::{self, Job, RECORD};
-use crate::lines::absent_or_forced;
+use crate::job_text::{self, LARGEST_JOB, LARGEST_PAYLOAD, RECORD};
 use crate::numbers::grouped;
-use std::fmt::Write;
-use std::path::Path;
+use crate::output::Outputs;
+use crate::told::Told;
+use clap::Args;
+use serde_json::json;
+use std::path::{Path, PathBuf};
 
 /// How it is called.
-pub const SHAPE: Shape = Shape {
-    name: "job",
-    about: "a job from a plain text, and back",
-    usage: "TEXT JOB PAYLOAD [--back] [--force]",
-    details: "\
+#[derive(Debug, Args)]
+#[command(after_help = "\
 Each line of TEXT is a step:
   erase 4k 0x1000               also 32k, 64k; 'erase all'
   lay 0x100 hex 11 22 33        bytes as they stand
@@ -25,56 +23,66 @@ Each line of TEXT is a step:
   lay 0x300 span 16 32          its 32 bytes from place 16
   guard 17                      or by area: none, all, 'top 64k', 'bottom 4k'
 Blank lines and what follows a # say nothing; a line that ends in \\ goes on; a
-name with blanks stands in quotes. Files are looked for in TEXT's folder.
+name with blanks stands in quotes. Files are looked for in TEXT's folder.")]
+pub struct Job {
+    /// The steps as text
+    text: PathBuf,
+    /// The job's records
+    job: PathBuf,
+    /// The job's payload
+    payload: PathBuf,
+    /// Write TEXT from JOB and PAYLOAD, so that it makes them again
+    #[arg(long)]
+    back: bool,
+    /// Replace files that are there
+    #[arg(long)]
+    force: bool,
+}
 
-  --back    TEXT is written from JOB and PAYLOAD, so that it makes them again
-  --force   with --back: replace a TEXT that is there already
-",
-    plain: &["TEXT", "JOB", "PAYLOAD"],
-    more: false,
-    options: &[],
-    flags: &["back", "force"],
-};
-
-/// Writes job and payload, or the text.
-///
-/// # Errors
-///
-/// Refusals 20 and 22 to 24; files.
-pub fn run(args: &Args, said: &mut String) -> Result<(), Error> {
-    match args.flag("back") {
-        true => back(args, said),
-        false => forth(args, said),
+impl Job {
+    /// Writes job and payload, or the text.
+    ///
+    /// # Errors
+    ///
+    /// Refusals 20 and 22 to 24; files.
+    pub fn run(&self) -> Result<Told, Error> {
+        match self.back {
+            true => self.backward(),
+            false => self.forward(),
+        }
     }
-}
 
-fn forth(args: &Args, said: &mut String) -> Result<(), Error> {
-    let job = job_text::read(args.path(0))?;
-    let mut staged = Staged::sparing(&[args.path(0)]);
-    staged.lay(args.path(1), &job.records)?;
-    staged.lay(args.path(2), &job.payload)?;
-    staged.commit()?;
-    let (records, bytes) = (job.records.len() / RECORD, job.payload.len());
-    let (records, bytes) = (grouped(records), grouped(bytes));
-    let (job, payload) = (args.plain(1), args.plain(2));
-    let _ = write!(said, "{job}: {records} records\n{payload}: {bytes} bytes\n");
-    Ok(())
-}
+    fn forward(&self) -> Result<Told, Error> {
+        let job = job_text::read(&self.text)?;
+        let (records, bytes) = (job.records.len() / RECORD, job.payload.len());
+        let mut outputs = Outputs::new(self.force);
+        outputs.lay(&self.job, job.records)?;
+        outputs.lay(&self.payload, job.payload)?;
+        let data = outputs.commit()?;
+        let text = format!(
+            "{}: {} records\n{}: {} bytes\n",
+            shown(&self.job),
+            grouped(records),
+            shown(&self.payload),
+            grouped(bytes)
+        );
+        let json = json!({ "records": records, "payload": bytes });
+        Ok(Told::new(text, json).with_data(data))
+    }
 
-fn back(args: &Args, said: &mut String) -> Result<(), Error> {
-    let (text, path, payload) = (args.path(0), args.path(1), args.path(2));
-    absent_or_forced(args, text)?;
-    let job = Job {
-        records: files::read(path)?,
-        payload: files::read(payload)?,
-    };
-    let written = job_back::text(path, &job, &called(text, payload))?;
-    let mut staged = Staged::sparing(&[path, payload]);
-    staged.lay(text, written.as_bytes())?;
-    staged.commit()?;
-    let records = grouped(job.records.len() / RECORD);
-    let _ = writeln!(said, "{}: {records} steps", text.display());
-    Ok(())
+    fn backward(&self) -> Result<Told, Error> {
+        let job = job_text::Job {
+            records: files::read_up_to(&self.job, LARGEST_JOB)?,
+            payload: files::read_up_to(&self.payload, LARGEST_PAYLOAD)?,
+        };
+        let steps = job.records.len() / RECORD;
+        let text = job_back::text(&self.job, &job, &called(&self.text, &self.payload))?;
+        let mut outputs = Outputs::new(self.force);
+        outputs.lay(&self.text, text)?;
+        let data = outputs.commit()?;
+        let text = format!("{}: {} steps\n", shown(&self.text), grouped(steps));
+        Ok(Told::new(text, json!({ "steps": steps })).with_data(data))
+    }
 }
 
 /// The name by which a text calls a file: short where they share a folder.

@@ -1,7 +1,7 @@
 //! A job back to text.
 
 use crate::areas;
-use crate::error::Error;
+use crate::error::{Error, shown};
 use crate::job_text::{Job, RECORD, checked, whole};
 use crate::numbers::spaced;
 use std::fmt::Write;
@@ -15,12 +15,12 @@ use tunebriar::{Step, Unit};
 ///
 /// Refusals 20 and 22 to 24, with the record.
 pub fn text(path: &Path, job: &Job, payload: &str) -> Result<String, Error> {
-    whole(job).map_err(|refusal| Error::refused(path, refusal))?;
+    whole(job).map_err(|refusal| Error::refused(shown(path), refusal))?;
     let mut steps = Vec::new();
     for (place, record) in job.records.chunks(RECORD).enumerate() {
         checked(record, &job.payload).map_err(|refusal| {
             let place = format!("record {place}");
-            Error::refused_at(path, place, refusal)
+            Error::refused_at(path, &place, refusal)
         })?;
         steps.push(decoded(record));
     }

@@ -2,7 +2,7 @@
 
 use crate::areas;
 use crate::chip::PART;
-use crate::error::Error;
+use crate::error::{Error, shown};
 use crate::files;
 use crate::lines::lines;
 use crate::numbers::{hex, number};
@@ -20,6 +20,10 @@ pub struct Job {
 
 /// Bytes of a job's record.
 pub const RECORD: usize = 16;
+/// The most bytes of a payload.
+pub const LARGEST_PAYLOAD: usize = 65_536;
+/// The most bytes of a job: 64 records.
+pub const LARGEST_JOB: usize = 64 * RECORD;
 /// The longest lay of one record.
 const LONGEST_LAY: u64 = 4_096;
 
@@ -38,12 +42,12 @@ pub fn read(path: &Path) -> Result<Job, Error> {
             let record = step.map_err(wrong)?.record();
             checked(&record, &job.payload).map_err(|refusal| {
                 let place = format!("line {line}, record {}", job.records.len() / RECORD);
-                Error::refused_at(path, place, refusal)
+                Error::refused_at(path, &place, refusal)
             })?;
             job.records.extend(record);
         }
     }
-    whole(&job).map_err(|refusal| Error::refused(path, refusal))?;
+    whole(&job).map_err(|refusal| Error::refused(shown(path), refusal))?;
     Ok(job)
 }
 
@@ -79,7 +83,8 @@ fn steps(path: &Path, line: usize, words: &[&str], job: &mut Job) -> Result<Step
             lays(address, &bytes, &mut job.payload)
         }
         ["payload", "from", name] if job.payload.is_empty() => {
-            job.payload = files::read(&beside(path, name))?;
+            job.payload = files::read_up_to(&beside(path, name), LARGEST_PAYLOAD)
+                .map_err(|error| error.within(format_args!("{}: line {line}", shown(path))))?;
             Vec::new()
         }
         ["payload", ..] => {
@@ -118,16 +123,15 @@ fn span(address: &str, offset: &str, length: &str) -> Result<Step, String> {
 
 fn bytes(path: &Path, line: usize, words: &[&str]) -> Result<Vec<u8>, Error> {
     let wrong = |words: String| Error::line(path, line, words);
+    let here = |error: Error| error.within(format_args!("{}: line {line}", shown(path)));
     match words {
         ["hex", rest @ ..] => hex(rest.iter().copied()).map_err(wrong),
-        ["from", name] => files::read(&beside(path, name)),
+        // What is too much for any payload is refused as 20, however much more there is.
+        ["from", name] => files::read_up_to(&beside(path, name), LARGEST_PAYLOAD).map_err(here),
         ["from", name, "at", at, "for", length] => {
-            let all = files::read(&beside(path, name))?;
-            let at = number(at).map_err(wrong)? as usize;
-            let length = number(length).map_err(wrong)? as usize;
-            let part = all.get(at..).and_then(|rest| rest.get(..length));
-            let part = part.ok_or_else(|| wrong(format!("{name} has only {} bytes", all.len())))?;
-            Ok(part.to_vec())
+            let (at, length) = (number(at).map_err(wrong)?, number(length).map_err(wrong)?);
+            let length = (length as usize).min(LARGEST_PAYLOAD + 1);
+            files::part(&beside(path, name), at.into(), length).map_err(here)
         }
         _ => Err(wrong(
             "a lay goes on with 'hex BYTES', 'from FILE' or 'from FILE at OFFSET for LENGTH'"

@@ -2,141 +2,136 @@
 //!
 //! It decides nothing about the chip: every verdict, count and refusal comes
 //! from the proved library. What is here reads files and text, hands them over,
-//! says in words what came back, and writes files whole or not at all.
+//! keeps what came back in the pool, and says it in words.
 
 pub mod areas;
-pub mod args;
+pub mod audit;
+pub mod bench;
 pub mod bill;
+pub mod board;
 pub mod chip;
+pub mod cli;
+pub mod clock;
+pub mod cut;
 pub mod error;
+pub mod explain;
 pub mod fields;
 pub mod files;
+pub mod flash;
 pub mod job;
 pub mod job_back;
 pub mod job_text;
+pub mod ledger;
 pub mod lines;
 pub mod list;
-pub mod new;
+pub mod marks;
+pub mod month;
+pub mod names;
 pub mod numbers;
+pub mod output;
 pub mod play;
+pub mod pool;
+pub mod progress;
 pub mod quote;
-pub mod replay;
+pub mod report;
+pub mod sha256;
 pub mod state_file;
+pub mod tally;
 pub mod tape;
+pub mod told;
 pub mod transact;
 pub mod translate;
 pub mod words;
 
-use args::{Args, Shape};
 use error::Error;
 use std::ffi::OsString;
-use std::io::Write;
+use std::io::{ErrorKind, Write, stderr, stdout};
+use std::panic::{AssertUnwindSafe, catch_unwind, set_hook};
 use std::process::ExitCode;
+use told::Told;
 
-/// A subcommand: how it is called, and what it does. What it has to say goes
-/// to the text, which is printed only after all its files are in place.
-struct Subcommand {
-    shape: &'static Shape,
-    run: fn(&Args, &mut String) -> Result<(), Error>,
+/// What a call says, and how it ends.
+#[derive(Debug, Default, PartialEq, Eq)]
+pub struct Ended {
+    /// 0 served, 1 refused, 2 wrong usage, or a file or pool that cannot be read
+    /// or written; nothing else.
+    pub status: u8,
+    /// For standard output.
+    pub out: Vec<u8>,
+    /// For standard error.
+    pub err: String,
 }
 
-const SUBCOMMANDS: [Subcommand; 9] = [
-    Subcommand {
-        shape: &new::SHAPE,
-        run: new::run,
-    },
-    Subcommand {
-        shape: &job::SHAPE,
-        run: job::run,
-    },
-    Subcommand {
-        shape: &translate::SHAPE,
-        run: translate::run,
-    },
-    Subcommand {
-        shape: &quote::SHAPE,
-        run: quote::run,
-    },
-    Subcommand {
-        shape: &tape::SHAPE,
-        run: tape::run,
-    },
-    Subcommand {
-        shape: &list::SHAPE,
-        run: list::run,
-    },
-    Subcommand {
-        shape: &transact::SHAPE,
-        run: transact::run,
-    },
-    Subcommand {
-        shape: &replay::SHAPE,
-        run: replay::run,
-    },
-    Subcommand {
-        shape: &bill::SHAPE,
-        run: bill::run,
-    },
-];
-
-/// Runs the command on its arguments. Exit status 0 served, 1 refused, 2 wrong
-/// usage or a file that cannot be read or written.
+/// Runs the command on its arguments.
 pub fn main(words: impl Iterator<Item = OsString>) -> ExitCode {
-    let mut said = String::new();
-    let ended = called(words, &mut said);
-    // A reader that has seen enough, as `head`, is no failure of ours.
-    let _ = std::io::stdout().write_all(said.as_bytes());
-    match ended {
-        Ok(()) => ExitCode::SUCCESS,
-        Err(error) => {
-            eprintln!("tunebriar: {error}");
-            ExitCode::from(error.status())
+    set_hook(Box::new(|_| {}));
+    let mut ended = call(&words.collect::<Vec<_>>());
+    // What cannot be written is lost, and that is told. A reader that has seen
+    // enough, as `head`, is no failure of ours.
+    let mut out = stdout().lock();
+    if let Err(error) = out.write_all(&ended.out).and_then(|()| out.flush())
+        && error.kind() != ErrorKind::BrokenPipe
+    {
+        let words = format!(
+            "standard output: cannot be written: {}",
+            files::plain(&error)
+        );
+        ended.complain(&Error::wrong(words));
+    }
+    let _ = stderr().write_all(ended.err.as_bytes());
+    ExitCode::from(ended.status)
+}
+
+/// Carries out one call, and prints nothing.
+#[must_use]
+pub fn call(words: &[OsString]) -> Ended {
+    files::forget();
+    // A fault of ours ends the call, and the book takes back what it did.
+    let told = catch_unwind(AssertUnwindSafe(|| called(words))).unwrap_or_else(|fault| {
+        let words = fault
+            .downcast_ref::<&str>()
+            .map(|words| (*words).to_string());
+        let words = words.or_else(|| fault.downcast_ref::<String>().cloned());
+        let words = words.unwrap_or_default();
+        Err(Error::wrong(format_args!(
+            "a fault of this command: {words}"
+        )))
+    });
+    let mut ended = Ended::default();
+    match told {
+        Ok((told, json)) => ended.tell(told, json),
+        Err(error) => ended.complain(&error),
+    }
+    ended
+}
+
+fn called(words: &[OsString]) -> Result<(Told, bool), Error> {
+    match cli::parse(words) {
+        Ok(call) => Ok((call.run()?, call.json)),
+        Err(help) if !help.use_stderr() => {
+            Ok((Told::new(help.to_string(), serde_json::Value::Null), false))
         }
+        Err(wrong) => Err(Error::wrong(cli::in_one_line(&wrong.to_string()))),
     }
 }
 
-fn called(words: impl Iterator<Item = OsString>, said: &mut String) -> Result<(), Error> {
-    let words = args::utf8(words)?;
-    let Some((name, rest)) = words.split_first() else {
-        return Err(Error::usage("tunebriar", "no subcommand is given"));
-    };
-    if matches!(name.as_str(), "--help" | "-h" | "help") {
-        said.push_str(&overview());
-        return Ok(());
-    }
-    if name == "--version" {
-        said.push_str(concat!("tunebriar ", env!("CARGO_PKG_VERSION"), "\n"));
-        return Ok(());
-    }
-    let found = SUBCOMMANDS.iter().find(|known| known.shape.name == name);
-    let Some(subcommand) = found else {
-        let words = format!("there is no subcommand '{name}'");
-        return Err(Error::usage("tunebriar", words));
-    };
-    match subcommand.shape.parse(rest)? {
-        Some(args) => (subcommand.run)(&args, said),
-        None => {
-            said.push_str(&subcommand.shape.help());
-            Ok(())
+impl Ended {
+    fn tell(&mut self, told: Told, json: bool) {
+        let text = match json {
+            true => format!("{:#}\n", told.json),
+            false => told.text,
+        };
+        match told.data {
+            Some(data) => (self.out, self.err) = (data, text),
+            None => self.out = text.into_bytes(),
+        }
+        if let Some(refused) = told.refused {
+            self.complain(&refused);
         }
     }
-}
 
-fn overview() -> String {
-    let mut text = String::from(
-        "tunebriar: what a flash chip was made to do, and what it costs\n\n\
-         usage: tunebriar SUBCOMMAND ..\n\n",
-    );
-    for known in &SUBCOMMANDS {
-        text.push_str(&format!(
-            "  {:<10} {}\n",
-            known.shape.name, known.shape.about
-        ));
+    fn complain(&mut self, error: &Error) {
+        self.err.push_str(&format!("tunebriar: {error}\n"));
+        self.status = self.status.max(error.status());
     }
-    text.push_str(
-        "\n'tunebriar SUBCOMMAND --help' says more. Exit status: 0 served, 1 refused,\n\
-         2 wrong usage or a file that cannot be read or written. Unless a call is\n\
-         served, no file changes.\n",
-    );
-    text
 }

@@ -1,6 +1,5 @@
 //! Texts of steps and records: lines, words, comments.
 
-use crate::args::Args;
 use crate::error::Error;
 use std::path::Path;
 
@@ -47,16 +46,4 @@ fn split(content: &str) -> Result<Vec<String>, String> {
         rest = after.trim_start();
     }
     Ok(words)
-}
-
-/// A text that someone wrote by hand is not replaced unasked.
-///
-/// # Errors
-///
-/// Where the file is there and `--force` is not given.
-pub fn absent_or_forced(args: &Args, path: &Path) -> Result<(), Error> {
-    match path.exists() && !args.flag("force") {
-        true => Err(Error::file(path, "is there already; --force replaces it")),
-        false => Ok(()),
-    }
 }

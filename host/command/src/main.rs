@@ -3,5 +3,5 @@
 use std::process::ExitCode;
 
 fn main() -> ExitCode {
-    command::main(std::env::args_os().skip(1))
+    command::main(std::env::args_os())
 }

@@ -1,176 +1,148 @@
-//! A tape played record by record, so that each record's verdict is known.
-//!
-//! The bill comes from the library's replay. What is counted here beside it,
-//! by verdict, comes from the library's transactions on the same records; both
-//! must end at the same array, registers and meter, or nothing is told at all.
-//! So must the library's count of the verdicts alone: what is told is billed.
+//! `tunebriar play`: tapes on a board.
 
-use crate::chip::{Chip, PART};
-use std::collections::BTreeMap;
-use tunebriar::{
-    Kind, Meter, Read, Reader, Reason, Record, Refusal, State, Transaction, Verdict, finish,
-    power_cycle, replay_first, transact,
-};
+use crate::bench::Bench;
+use crate::error::{Error, plain, told};
+use crate::numbers::grouped;
+use crate::pool::plays::{Came, LONGEST_TAPE};
+use crate::pool::{Asked, boards};
+use crate::told::Told;
+use crate::{files, report, words};
+use clap::Args;
+use rusqlite::Connection;
+use serde_json::{Value, json};
+use std::fmt::Write;
+use std::path::{Path, PathBuf};
+use tunebriar::{RECORD, State};
 
-/// What a transaction asked for, as the bill sees it.
-#[derive(Clone, Copy, Debug, PartialEq, Eq, PartialOrd, Ord)]
-pub enum Asked {
-    /// A page program.
-    Program,
-    /// An erase of any unit.
-    Erase,
-    /// A status write.
-    StatusWrite,
-    /// Anything else, known or not.
-    Other,
+/// How it is called.
+#[derive(Debug, Args)]
+#[command(
+    after_help = "The tapes are played in their order, in one transaction of the book: \
+                        all of them are in it, or none. A tape that is refused is kept with its \
+                        refusal and bills nothing; the exit status is then 1."
+)]
+pub struct Play {
+    /// The board
+    board: String,
+    /// The tapes
+    #[arg(required = true, value_name = "TAPE")]
+    tapes: Vec<PathBuf>,
+    /// Keep nothing, and exit 1, if some tape is refused
+    #[arg(long)]
+    strict: bool,
+    /// Show it, and keep nothing
+    #[arg(long)]
+    dry_run: bool,
+    /// Play the first K records only
+    #[arg(long, value_name = "K", requires = "dry_run")]
+    first: Option<u64>,
 }
 
-impl Asked {
-    /// What these bytes ask for, carried out or not.
-    #[must_use]
-    pub fn of(bytes: &[u8]) -> Asked {
-        match bytes.first().copied().and_then(Kind::of) {
-            Some(Kind::Program) => Asked::Program,
-            Some(Kind::EraseSector | Kind::EraseHalfBlock | Kind::EraseBlock | Kind::EraseAll) => {
-                Asked::Erase
-            }
-            Some(Kind::WriteStatus) => Asked::StatusWrite,
-            _ => Asked::Other,
+/// What is told of a call's tapes; the tapes themselves are gone by then.
+#[derive(Default)]
+struct Played {
+    text: String,
+    json: Vec<Value>,
+    refused: Vec<String>,
+}
+
+impl Play {
+    /// Plays the tapes, and says what came of them.
+    ///
+    /// # Errors
+    ///
+    /// A board that cannot be played on; with `--strict` a refused tape; files.
+    pub fn run(&self, pool: &Asked) -> Result<Told, Error> {
+        for tape in self.tapes.iter().filter(|tape| tape.as_os_str() != "-") {
+            files::readable(tape)?;
         }
-    }
-
-    /// In words.
-    #[must_use]
-    pub fn words(self) -> &'static str {
-        match self {
-            Asked::Program => "programs",
-            Asked::Erase => "erases",
-            Asked::StatusWrite => "status writes",
-            Asked::Other => "other",
-        }
-    }
-}
-
-/// What became of a tape's records.
-#[derive(Clone, Debug, Default, PartialEq, Eq)]
-pub struct Tally {
-    /// Carried out, by the command's code.
-    pub carried_out: BTreeMap<u8, u64>,
-    /// Ignored, by the verdict's number and what was asked for.
-    pub ignored: BTreeMap<(u32, Asked), u64>,
-    /// Finish events.
-    pub finishes: u64,
-    /// Power cycles.
-    pub power_cycles: u64,
-}
-
-impl Tally {
-    /// Records played.
-    #[must_use]
-    pub fn records(&self) -> u64 {
-        self.all_carried_out() + self.all_ignored() + self.finishes + self.power_cycles
-    }
-
-    /// Transactions carried out.
-    #[must_use]
-    pub fn all_carried_out(&self) -> u64 {
-        self.carried_out.values().sum()
-    }
-
-    /// Transactions ignored.
-    #[must_use]
-    pub fn all_ignored(&self) -> u64 {
-        self.ignored.values().sum()
-    }
-
-    /// Ignored for a reason.
-    #[must_use]
-    pub fn ignored_for(&self, reason: Reason) -> u64 {
-        self.ignored_where(|number, _| number == reason as u32)
-    }
-
-    /// Ignored of what was asked for.
-    #[must_use]
-    pub fn ignored_of(&self, asked: Asked) -> u64 {
-        self.ignored_where(|_, other| other == asked)
-    }
-
-    fn ignored_where(&self, fits: impl Fn(u32, Asked) -> bool) -> u64 {
-        let fitting = self.ignored.iter().filter(|((n, a), _)| fits(*n, *a));
-        fitting.map(|(_, count)| count).sum()
-    }
-
-    fn count(&mut self, bytes: &[u8], verdict: Verdict) {
-        let count = match verdict {
-            Verdict::CarriedOut(kind) => self.carried_out.entry(kind.code()).or_default(),
-            Verdict::Ignored(why) => {
-                let key = (why as u32, Asked::of(bytes));
-                self.ignored.entry(key).or_default()
-            }
+        let mut pool = pool.open()?;
+        let (played, state) = match self.dry_run {
+            true => pool.read(|book| self.played(book, ""))?,
+            false => pool.write(|book, now| self.played(book, now))?,
         };
-        *count += 1;
+        Ok(self.told(played, state))
     }
-}
 
-/// What is told so far, and the meter that its verdicts alone come to.
-struct Told {
-    tally: Tally,
-    meter: Meter,
-}
+    fn played(&self, book: &Connection, now: &str) -> Result<(Played, State), Error> {
+        let mut bench = Bench::new(book, now)?;
+        bench.take(boards::find(book, &self.board)?)?;
+        let mut played = Played::default();
+        for path in &self.tapes {
+            self.one(&mut bench, path, &mut played)?;
+        }
+        if !self.dry_run {
+            bench.keep()?;
+        }
+        Ok((played, bench.chip().state))
+    }
 
-/// Plays the first `k` records of a tape, after every check of the whole tape,
-/// and says what became of each.
-///
-/// # Errors
-///
-/// Refusals 2, 3, 30, 31 and 7; then the chip is as it was.
-///
-/// # Panics
-///
-/// Where playing record by record ends elsewhere than the library's replay,
-/// which is proved not to be.
-pub fn play(chip: &mut Chip, tape: &[u8], k: u64) -> Result<Tally, Refusal> {
-    let mut played = chip.array.clone();
-    let after = replay_first(PART, chip.state, &mut played, tape, k)?;
-    let mut told = Told {
-        tally: Tally::default(),
-        meter: chip.state.meter,
-    };
-    let mut reader = Reader::new(tape);
-    while reader.place() < k {
-        let Read::Record(record) = reader.read() else {
-            break;
+    fn one(&self, bench: &mut Bench, path: &Path, played: &mut Played) -> Result<(), Error> {
+        let tape = files::read(path, LONGEST_TAPE)?;
+        let name = plain(&path.to_string_lossy());
+        let (number, came) = match self.dry_run {
+            true => {
+                let first = self.first.unwrap_or(u64::MAX);
+                (bench.next(), bench.chip().play_first(&tape, first, |_| {}))
+            }
+            false => bench.play(&name, &tape)?,
         };
-        chip.state = step(chip, record, &mut told)?;
+        if let Err(refusal) = &came {
+            if self.strict {
+                return Err(Error::refused(name, *refusal));
+            }
+            played.refused.push(format!("{name}: {}", told(*refusal)));
+        }
+        played.json.push(report::json(number, &name, &tape, &came));
+        let text = match self.tapes.len() {
+            1 => self.report(number, &name, &tape, &came),
+            _ => report::line(number, &name, &tape, &came),
+        };
+        played.text.push_str(&text);
+        Ok(())
     }
-    assert!(
-        chip.state == after && chip.array == played && told.meter == after.meter,
-        "the replay and its records do not agree: nothing is told"
-    );
-    Ok(told.tally)
+
+    /// One tape alone is told in full.
+    fn report(&self, number: i64, name: &str, tape: &[u8], came: &Came) -> String {
+        let Ok(outcome) = came else {
+            return report::line(number, name, tape, came);
+        };
+        let (played, all) = (outcome.tally.records(), tape.len() / RECORD);
+        let (played, all) = (grouped(played), grouped(all));
+        let kept = match self.dry_run {
+            true => "not kept".to_string(),
+            false => format!("play {number}"),
+        };
+        let mut text = format!("{name}: {played} of {all} records played, {kept}\n");
+        text.push_str(&report::tally(&outcome.tally));
+        let _ = writeln!(text, "rise       {}", words::meter(outcome.rise));
+        text
+    }
+
+    fn told(&self, played: Played, state: State) -> Told {
+        let mut told = Told::new(
+            played.text + &report::state(state),
+            json!({
+                "board": self.board,
+                "kept": !self.dry_run,
+                "plays": played.json,
+                "after": report::state_json(state),
+            }),
+        );
+        told.refused = refused(&played.refused);
+        told
+    }
 }
 
-fn step(chip: &mut Chip, record: Record, told: &mut Told) -> Result<State, Refusal> {
-    let State { registers, meter } = chip.state;
-    let registers = match record {
-        Record::Transaction(sent) => return sending(chip, sent, told),
-        Record::Finish => {
-            told.tally.finishes += 1;
-            finish(PART, registers)?
-        }
-        Record::PowerCycle => {
-            told.tally.power_cycles += 1;
-            power_cycle(PART, registers)?
-        }
-    };
-    Ok(State { registers, meter })
-}
-
-fn sending(chip: &mut Chip, sent: Transaction, told: &mut Told) -> Result<State, Refusal> {
-    // A record has 260 bytes at the most.
-    let mut out = [0; tunebriar::RECORD];
-    let (verdict, state) = transact(PART, chip.state, sent, &mut chip.array, &mut out)?;
-    told.tally.count(sent.bytes, verdict);
-    told.meter.count(PART, verdict)?;
-    Ok(state)
+/// The first refusal of a call, and how many there were.
+#[must_use]
+pub fn refused(all: &[String]) -> Option<Error> {
+    match all {
+        [] => None,
+        [one] => Some(Error::denied(one)),
+        [first, rest @ ..] => Some(Error::denied(format_args!(
+            "{first}; and {} more refused",
+            rest.len()
+        ))),
+    }
 }

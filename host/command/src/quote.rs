@@ -1,63 +1,78 @@
 //! `tunebriar quote`: what a job will cost, before anything is played.
 
-use crate::args::{Args, Shape};
-use crate::bill::prices::{Counts, Prices};
-use crate::chip::PART;
+use crate::bill::Figures;
+use crate::bill::prices::Prices;
 use crate::error::Error;
-use crate::files;
 use crate::numbers::grouped;
-use crate::translate::start_setting;
+use crate::pool::Asked;
+use crate::told::Told;
+use crate::translate::{Start, Translated};
+use clap::Args;
+use serde_json::{Value, json};
 use std::fmt::Write;
-use std::path::Path;
-use tunebriar::quote;
+use std::path::PathBuf;
+use tunebriar::Bill;
 
 /// How it is called.
-pub const SHAPE: Shape = Shape {
-    name: "quote",
-    about: "what a job will cost, before anything is played",
-    usage: "JOB PAYLOAD [--setting S | --state STATE] [--prices PRICES]",
-    details: "\
-Prints the rises of the counts, worked out from the job alone.
+#[derive(Debug, Args)]
+pub struct Quote {
+    /// The job's records
+    job: PathBuf,
+    /// The job's payload
+    payload: PathBuf,
+    #[command(flatten)]
+    start: Start,
+    /// A text of prices; the amount is told as well
+    #[arg(long, value_name = "FILE")]
+    prices: Option<PathBuf>,
+}
 
-  --setting S      the protection at the start: 0 to 31, none, all, or an area
-                   as 'top 64k'; none where nothing is said
-  --state STATE    take it from a chip's state
-  --prices PRICES  print the amount as well
-",
-    plain: &["JOB", "PAYLOAD"],
-    more: false,
-    options: &["setting", "state", "prices"],
-    flags: &[],
-};
+impl Quote {
+    /// Tells the bill beforehand.
+    ///
+    /// # Errors
+    ///
+    /// Refusals 20 to 25; a start at which the job would not be done; files.
+    pub fn run(&self, pool: &Asked) -> Result<Told, Error> {
+        let prices = self.prices.as_deref().map(Prices::read).transpose()?;
+        let Translated { bill, .. } = self.start.translated(pool, &self.job, &self.payload)?;
+        told(&bill, prices.as_ref())
+    }
+}
 
-/// Prints the bill beforehand.
+/// A bill beforehand, in words and as JSON.
 ///
 /// # Errors
 ///
-/// Refusals 20 to 25; wrong usage; files.
-pub fn run(args: &Args, said: &mut String) -> Result<(), Error> {
-    let setting = start_setting(args)?;
-    let prices = args.option("prices").map(Path::new);
-    let prices = prices.map(Prices::read).transpose()?;
-    let (job, payload) = (files::read(args.path(0))?, files::read(args.path(1))?);
-    let bill = quote(PART, setting, &job, &payload)
-        .map_err(|refusal| Error::refused(args.path(0), refusal))?;
-    let _ = write!(
-        said,
+/// Where the amount is too large.
+pub fn told(bill: &Bill, prices: Option<&Prices>) -> Result<Told, Error> {
+    let mut text = format!(
         "programs         {}\nerases           {}\nregister writes  {}\ntape             {} bytes\n",
         grouped(bill.programs),
         grouped(bill.erases),
         grouped(bill.register_writes),
         grouped(bill.tape),
     );
+    let mut json = json!({
+        "programs": bill.programs,
+        "erases": bill.erases,
+        "register_writes": bill.register_writes,
+        "tape": bill.tape,
+    });
     if let Some(prices) = prices {
-        let counts = Counts {
+        let figures = Figures {
             programs: bill.programs.into(),
             erases: bill.erases.into(),
             register_writes: bill.register_writes.into(),
-            ignored: 0,
+            ..Figures::default()
         };
-        let _ = writeln!(said, "amount           {}", prices.shown(counts));
+        let cost = prices.rounded(&figures);
+        let amount = cost
+            .ok_or_else(|| Error::wrong("the amount is too large"))?
+            .amount;
+        let _ = writeln!(text, "amount           {}", prices.in_currency(amount));
+        json["amount"] = Value::from(amount.bare(prices.decimals));
+        json["currency"] = Value::from(prices.currency.as_str());
     }
-    Ok(())
+    Ok(Told::new(text, json))
 }

@@ -11,13 +11,13 @@
 //! ignored = 0
 //! ```
 
+use crate::chip::NAME;
 use crate::error::Error;
 use crate::fields::Fields;
 use crate::numbers::number;
 use std::path::Path;
 use tunebriar::{Meter, Registers, State};
 
-const CHIP: &str = "FM25Q16";
 const KEYS: [&str; 7] = [
     "chip",
     "status",
@@ -53,8 +53,8 @@ pub fn read(path: &Path) -> Result<State, Error> {
 
 fn known(word: &str) -> Result<(), String> {
     match word {
-        CHIP => Ok(()),
-        _ => Err(format!("the chip '{word}' is not known; there is {CHIP}")),
+        NAME => Ok(()),
+        _ => Err(format!("the chip '{word}' is not known; there is {NAME}")),
     }
 }
 
@@ -76,7 +76,7 @@ pub fn text(state: State) -> String {
     let State { registers, meter } = state;
     format!(
         "# tunebriar state: registers and meter\n\
-         chip = {CHIP}\n\
+         chip = {NAME}\n\
          status = 0x{:04X}\n\
          awake = {}\n\
          programs = {}\n\

@@ -1,64 +1,68 @@
 //! `tunebriar tape`: a tape as text, for tapes that no job makes.
 
-use crate::args::{Args, Shape};
-use crate::error::Error;
-use crate::files::{self, Staged};
-use crate::lines::{absent_or_forced, lines};
+use crate::error::{Error, shown};
+use crate::files;
+use crate::lines::lines;
 use crate::numbers::{grouped, hex, number, spaced};
-use std::fmt::Write;
-use std::path::Path;
+use crate::output::Outputs;
+use crate::told::Told;
+use clap::Args;
+use serde_json::json;
+use std::path::{Path, PathBuf};
 use tunebriar::{RECORD, Read, Reader, Record, Transaction, read};
 
 /// How it is called.
-pub const SHAPE: Shape = Shape {
-    name: "tape",
-    about: "a tape from a text of its records, and back",
-    usage: "TEXT TAPE [--back] [--force]",
-    details: "\
+#[derive(Debug, Args)]
+#[command(after_help = "\
 Each line of TEXT is a record:
   send 02 00 00 FE 11 22     a transaction, /WP high, no leftover bits
   send wp-low bits 3 05 00   the same with /WP low and 3 leftover bits
   finish
   power-cycle
-Blank lines and what follows a # say nothing; a line that ends in \\ goes on.
-
-  --back    TEXT is written from TAPE
-  --force   with --back: replace a TEXT that is there already
-",
-    plain: &["TEXT", "TAPE"],
-    more: false,
-    options: &[],
-    flags: &["back", "force"],
-};
+Blank lines and what follows a # say nothing; a line that ends in \\ goes on.")]
+pub struct Tape {
+    /// The records as text
+    text: PathBuf,
+    /// The tape
+    tape: PathBuf,
+    /// Write TEXT from TAPE
+    #[arg(long)]
+    back: bool,
+    /// Replace a file that is there
+    #[arg(long)]
+    force: bool,
+}
 
 /// The most bytes that a record holds.
-const MOST: usize = 260;
+pub const LONGEST: usize = 260;
+/// The most bytes of a tape that is turned into text.
+const LARGEST: usize = crate::pool::plays::LONGEST_TAPE;
 
-/// Writes the tape, or its text.
-///
-/// # Errors
-///
-/// Refusals 30 and 31; files.
-pub fn run(args: &Args, said: &mut String) -> Result<(), Error> {
-    let (text, tape) = (args.path(0), args.path(1));
-    let (from, to, bytes, records) = match args.flag("back") {
-        true => {
-            absent_or_forced(args, text)?;
-            let bytes = files::read(tape)?;
-            let written = back(tape, &bytes)?.into_bytes();
-            (tape, text, written, bytes.len() / RECORD)
-        }
-        false => {
-            let bytes = forth(text)?;
-            let records = bytes.len() / RECORD;
-            (text, tape, bytes, records)
-        }
-    };
-    let mut staged = Staged::sparing(&[from]);
-    staged.lay(to, &bytes)?;
-    staged.commit()?;
-    let _ = writeln!(said, "{}: {} records", to.display(), grouped(records));
-    Ok(())
+impl Tape {
+    /// Writes the tape, or its text.
+    ///
+    /// # Errors
+    ///
+    /// Refusals 30 and 31; files.
+    pub fn run(&self) -> Result<Told, Error> {
+        let (to, bytes, records) = match self.back {
+            true => {
+                let tape = files::read(&self.tape, LARGEST)?;
+                let text = back(&self.tape, &tape)?;
+                (&self.text, text.into_bytes(), tape.len() / RECORD)
+            }
+            false => {
+                let tape = forth(&self.text)?;
+                let records = tape.len() / RECORD;
+                (&self.tape, tape, records)
+            }
+        };
+        let mut outputs = Outputs::new(self.force);
+        outputs.lay(to, bytes)?;
+        let data = outputs.commit()?;
+        let text = format!("{}: {} records\n", shown(to), grouped(records));
+        Ok(Told::new(text, json!({ "records": records })).with_data(data))
+    }
 }
 
 fn forth(path: &Path) -> Result<Vec<u8>, Error> {
@@ -66,7 +70,8 @@ fn forth(path: &Path) -> Result<Vec<u8>, Error> {
     for (line, words) in lines(path, &files::text(path)?)? {
         let record = record(&words).map_err(|words| Error::line(path, line, words))?;
         if let Read::Fault(refusal) = read(&record, 0) {
-            return Err(Error::refused_at(path, format!("line {line}"), refusal));
+            let place = format!("line {line}");
+            return Err(Error::refused_at(path, &place, refusal));
         }
         tape.extend(record);
     }
@@ -96,14 +101,15 @@ fn sent(words: &[&str]) -> Result<Vec<u8>, String> {
         return Err(format!("{bits} leftover bits are over 7"));
     }
     let bytes = hex(words.iter().copied())?;
-    if bytes.len() > MOST {
-        return Err(format!("{} bytes are over {MOST}", bytes.len()));
+    if bytes.len() > LONGEST {
+        return Err(format!("{} bytes are over {LONGEST}", bytes.len()));
     }
     Ok(laid(0, wp + bits as u8, &bytes))
 }
 
 /// A record of 264 bytes: length, kind, bits and /WP, the bytes, zeros.
-fn laid(kind: u8, bits: u8, bytes: &[u8]) -> Vec<u8> {
+#[must_use]
+pub fn laid(kind: u8, bits: u8, bytes: &[u8]) -> Vec<u8> {
     let mut record = vec![0; RECORD];
     record[..2].copy_from_slice(&(bytes.len() as u16).to_be_bytes());
     (record[2], record[3]) = (kind, bits);
@@ -120,7 +126,7 @@ fn back(path: &Path, tape: &[u8]) -> Result<String, Error> {
             Read::Record(Record::Finish) => text.push_str("finish\n"),
             Read::Record(Record::PowerCycle) => text.push_str("power-cycle\n"),
             Read::End => return Ok(text),
-            Read::Fault(refusal) => return Err(Error::refused(path, refusal)),
+            Read::Fault(refusal) => return Err(Error::refused(shown(path), refusal)),
         }
     }
 }

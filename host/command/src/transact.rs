@@ -1,110 +1,140 @@
 //! `tunebriar transact`: one bus transaction, or one event.
 
-use crate::args::{Args, Shape};
-use crate::chip::{Chip, PART, about};
+use crate::bench::Bench;
 use crate::error::Error;
-use crate::numbers::{hex, number, spaced};
-use crate::words;
-use std::fmt::Write;
-use std::path::Path;
-use tunebriar::{Refusal, Transaction, finish, power_cycle, transact};
+use crate::numbers::{hex, spaced};
+use crate::pool::{Asked, boards};
+use crate::tape::{LONGEST, laid};
+use crate::told::Told;
+use crate::{report, words};
+use clap::{Args, ValueEnum};
+use rusqlite::Connection;
+use serde_json::{Value, json};
+use tunebriar::{State, Verdict};
 
 /// How it is called.
-pub const SHAPE: Shape = Shape {
-    name: "transact",
-    about: "one bus transaction on a chip",
-    usage: "ARRAY STATE HEX.. [--wp high|low] [--bits N] [--dry-run]",
-    details: "\
-Sends the bytes and shows those that come out, the verdict, the registers and
-the meter. In place of HEX: 'none' (no whole byte), 'finish', 'power-cycle'.
-What the chip ignores is served, and counted.
-
-  --wp low    /WP is low; it is high where nothing is said
-  --bits N    bits clocked in after the last whole byte, 0 to 7
-  --dry-run   show it, and leave both files as they are
-
-example: tunebriar transact chip.array chip.state 02 00 00 FE 11 22
-",
-    plain: &["ARRAY", "STATE", "HEX"],
-    more: true,
-    options: &["wp", "bits"],
-    flags: &["dry-run"],
-};
-
-/// What the call sends.
-enum Sent {
-    Bytes(Vec<u8>, u8, bool),
-    Finish,
-    PowerCycle,
+#[derive(Debug, Args)]
+#[command(
+    after_help = "In place of HEX: 'none' (no whole byte), 'finish', 'power-cycle'. What \
+                        the chip ignores is served, and counted. It is kept in the book as a \
+                        tape of one record, so it has at most 260 bytes.\n\n\
+                        Example: tunebriar transact bench-1 02 00 00 FE 11 22"
+)]
+pub struct Transact {
+    /// The board
+    board: String,
+    /// The bytes to send, two hex digits each
+    #[arg(required = true, value_name = "HEX")]
+    bytes: Vec<String>,
+    /// The level of /WP
+    #[arg(long, value_enum, default_value_t = Level::High)]
+    wp: Level,
+    /// Bits clocked in after the last whole byte
+    #[arg(long, value_name = "N", default_value_t = 0)]
+    #[arg(value_parser = clap::value_parser!(u8).range(0..=7))]
+    bits: u8,
+    /// Show it, and keep nothing
+    #[arg(long)]
+    dry_run: bool,
 }
 
-/// Sends it, shows what came of it, and keeps the chip.
-///
-/// # Errors
-///
-/// Refusals 2 to 7; wrong usage; files.
-pub fn run(args: &Args, said: &mut String) -> Result<(), Error> {
-    let (array, state) = (args.path(0), args.path(1));
-    let sent = sent(args)?;
-    let was = Chip::read(array, state)?;
-    let mut chip = was.clone();
-    let answer = play(&mut chip, &sent).map_err(|refusal| {
-        Error::refused(
-            about(refusal, array, state, Path::new("transaction")),
-            refusal,
+#[derive(Clone, Copy, Debug, PartialEq, Eq, ValueEnum)]
+enum Level {
+    High,
+    Low,
+}
+
+/// What was heard from the chip.
+struct Heard {
+    number: i64,
+    answer: Option<(Vec<u8>, Verdict)>,
+    state: State,
+}
+
+impl Transact {
+    /// Sends it, and shows what came of it.
+    ///
+    /// # Errors
+    ///
+    /// A board that cannot be played on; wrong usage; the pool.
+    pub fn run(&self, pool: &Asked) -> Result<Told, Error> {
+        let (name, tape) = self.tape()?;
+        let mut pool = pool.open()?;
+        let heard = match self.dry_run {
+            true => pool.read(|book| self.sent(book, "", &name, &tape))?,
+            false => pool.write(|book, now| self.sent(book, now, &name, &tape))?,
+        };
+        Ok(self.told(&heard))
+    }
+
+    /// A tape of one record, and its name in the book.
+    fn tape(&self) -> Result<(String, Vec<u8>), Error> {
+        let words: Vec<&str> = self.bytes.iter().map(String::as_str).collect();
+        let plain = self.wp == Level::High && self.bits == 0;
+        let bytes = match words[..] {
+            ["finish"] if plain => return Ok(("finish".to_string(), laid(1, 0, &[]))),
+            ["power-cycle"] if plain => return Ok(("power-cycle".to_string(), laid(2, 0, &[]))),
+            ["finish" | "power-cycle"] => {
+                return Err(Error::wrong("an event has no --wp low and no --bits"));
+            }
+            ["none"] => Vec::new(),
+            _ => hex(words).map_err(Error::wrong)?,
+        };
+        if bytes.len() > LONGEST {
+            let words = format!("{} bytes are over {LONGEST}", bytes.len());
+            return Err(Error::wrong(words));
+        }
+        let high = if self.wp == Level::High { 8 } else { 0 };
+        let name = format!("send {}", spaced(&bytes[..bytes.len().min(4)]));
+        Ok((
+            name.trim_end().to_string(),
+            laid(0, high + self.bits, &bytes),
+        ))
+    }
+
+    fn sent(&self, book: &Connection, now: &str, name: &str, tape: &[u8]) -> Result<Heard, Error> {
+        let mut bench = Bench::new(book, now)?;
+        bench.take(boards::find(book, &self.board)?)?;
+        let number = bench.next();
+        let mut answer = None;
+        let came = bench.chip().play_first(tape, 1, |heard| {
+            answer = Some((heard.out.to_vec(), heard.verdict));
+        });
+        if let Err(refusal) = &came {
+            return Err(Error::refused(
+                format_args!("board {}", self.board),
+                *refusal,
+            ));
+        }
+        if !self.dry_run {
+            bench.write(number, name, tape, &came)?;
+            bench.keep()?;
+        }
+        let state = bench.chip().state;
+        Ok(Heard {
+            number,
+            answer,
+            state,
+        })
+    }
+
+    fn told(&self, heard: &Heard) -> Told {
+        let state = report::state(heard.state);
+        let mut json = json!({
+            "board": self.board,
+            "kept": !self.dry_run,
+            "play": (!self.dry_run).then_some(heard.number),
+            "after": report::state_json(heard.state),
+        });
+        let Some((out, verdict)) = &heard.answer else {
+            return Told::new(state, json);
+        };
+        json["out"] = Value::from(spaced(out));
+        json["verdict"] = Value::from(verdict.number());
+        let (out, verdict) = (spaced(out), words::verdict(*verdict));
+        Told::new(
+            format!("out        {out}\nverdict    {verdict}\n{state}"),
+            json,
         )
-    })?;
-    if !args.flag("dry-run") {
-        chip.lay(&was, array, state)?.commit()?;
     }
-    let (registers, meter) = (
-        words::registers(chip.state.registers),
-        words::meter(chip.state.meter),
-    );
-    let _ = write!(said, "{answer}registers  {registers}\nmeter      {meter}\n");
-    Ok(())
-}
-
-fn sent(args: &Args) -> Result<Sent, Error> {
-    let words: Vec<&str> = args.rest(2).iter().map(String::as_str).collect();
-    let plain = args.option("wp").is_none() && args.option("bits").is_none();
-    let bytes = match words[..] {
-        ["finish"] if plain => return Ok(Sent::Finish),
-        ["power-cycle"] if plain => return Ok(Sent::PowerCycle),
-        ["finish" | "power-cycle"] => return Err(args.wrong("an event has no --wp and no --bits")),
-        ["none"] => Vec::new(),
-        _ => hex(words).map_err(|words| args.wrong(words))?,
-    };
-    let wp_high = match args.option("wp") {
-        None | Some("high") => true,
-        Some("low") => false,
-        Some(other) => return Err(args.wrong(format!("--wp is high or low, not '{other}'"))),
-    };
-    let bits = number(args.option("bits").unwrap_or("0")).map_err(|words| args.wrong(words))?;
-    // Every number over 7 is refusal 5, and 255 is one of them.
-    let bits = u8::try_from(bits).unwrap_or(u8::MAX);
-    Ok(Sent::Bytes(bytes, bits, wp_high))
-}
-
-fn play(chip: &mut Chip, sent: &Sent) -> Result<String, Refusal> {
-    let registers = chip.state.registers;
-    match sent {
-        Sent::Finish => chip.state.registers = finish(PART, registers)?,
-        Sent::PowerCycle => chip.state.registers = power_cycle(PART, registers)?,
-        Sent::Bytes(bytes, leftover, wp_high) => return send(chip, bytes, *leftover, *wp_high),
-    }
-    Ok(String::new())
-}
-
-fn send(chip: &mut Chip, bytes: &[u8], leftover: u8, wp_high: bool) -> Result<String, Refusal> {
-    let transaction = Transaction {
-        bytes,
-        leftover,
-        wp_high,
-    };
-    let mut out = vec![0; bytes.len()];
-    let (verdict, state) = transact(PART, chip.state, transaction, &mut chip.array, &mut out)?;
-    chip.state = state;
-    let (out, verdict) = (spaced(&out), words::verdict(verdict));
-    Ok(format!("out        {out}\nverdict    {verdict}\n"))
 }

@@ -2,7 +2,7 @@
 
 use crate::areas;
 use crate::numbers::grouped;
-use tunebriar::{Kind, Meter, Reason, Registers, Verdict};
+use tunebriar::{Kind, Meter, Reason, Registers, SIZE, Verdict};
 
 /// Why a transaction was ignored.
 #[must_use]
@@ -39,6 +39,37 @@ pub fn kind(kind: Kind) -> &'static str {
         Kind::Identify => "maker and device byte",
         Kind::Jedec => "JEDEC bytes",
     }
+}
+
+/// What was sent: its command, and its address where it has one.
+#[must_use]
+pub fn sent(bytes: &[u8]) -> String {
+    let Some(&code) = bytes.first() else {
+        return "no whole byte".to_string();
+    };
+    let name = Kind::of(code).map_or("no such command", kind);
+    match address(bytes) {
+        Some(address) => format!("{code:02X} {name} at 0x{address:06X}"),
+        None => format!("{code:02X} {name}"),
+    }
+}
+
+/// The address of a transaction, where its command takes one: three bytes,
+/// high first, modulo the array's size.
+#[must_use]
+pub fn address(bytes: &[u8]) -> Option<usize> {
+    let [
+        0x02 | 0x03 | 0x0B | 0x20 | 0x52 | 0xD8 | 0x90,
+        high,
+        middle,
+        low,
+        ..,
+    ] = *bytes
+    else {
+        return None;
+    };
+    let sent = u32::from_be_bytes([0, high, middle, low]);
+    Some(sent as usize % SIZE)
 }
 
 /// A verdict with its number.

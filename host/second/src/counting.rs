@@ -24,7 +24,7 @@ struct Clause {
 static SENTENCE: [Clause; 4] = [
     accepted(&[0x02], |meter| &mut meter.programs),
     accepted(&[0x20, 0x52, 0xD8, 0xC7, 0x60], |meter| &mut meter.erases),
-    accepted(&[0x01], |meter| &mut meter.writes),
+    accepted(&[0x01], |meter| &mut meter.register_writes),
     Clause {
         verdicts: 10..=16,
         codes: None,

@@ -201,10 +201,11 @@ fn bill(steps: &[Step]) -> Bill {
         match step {
             Step::Erase { .. } => bill.erases += 1,
             Step::Lay(lay) => bill.programs += pages(lay),
-            Step::Guard { .. } => bill.writes += 1,
+            Step::Guard { .. } => bill.register_writes += 1,
         }
     }
-    let things = u64::from(bill.programs) + u64::from(bill.erases) + u64::from(bill.writes);
+    let things =
+        u64::from(bill.programs) + u64::from(bill.erases) + u64::from(bill.register_writes);
     bill.length = things * RECORDS_EACH * tape::RECORD as u64;
     bill
 }

@@ -53,7 +53,7 @@ pub struct Meter {
     /// Accepted erases.
     pub erases: u32,
     /// Accepted 01.
-    pub writes: u32,
+    pub register_writes: u32,
     /// Verdicts 10 to 16.
     pub ignored: u32,
 }
@@ -107,7 +107,7 @@ pub struct Bill {
     /// The rise of erases.
     pub erases: u32,
     /// The rise of register writes.
-    pub writes: u32,
+    pub register_writes: u32,
     /// Bytes of the tape.
     pub length: u64,
 }
@@ -259,7 +259,12 @@ fn admit_transaction(n: usize, leftover: u32, out: usize) -> Result<(), u32> {
 /// Refusal 7: every count needs room for all that is asked, whether or not it
 /// will rise.
 fn admit_counts(meter: Meter, asked: u64) -> Result<(), u32> {
-    let counts = [meter.programs, meter.erases, meter.writes, meter.ignored];
+    let counts = [
+        meter.programs,
+        meter.erases,
+        meter.register_writes,
+        meter.ignored,
+    ];
     let room = u64::from(u32::MAX - counts.into_iter().fold(0, u32::max));
     if asked > room { Err(7) } else { Ok(()) }
 }
@@ -315,7 +320,7 @@ fn counted(mut meter: Meter, verdict: Result<&Command, u32>) -> Meter {
     match verdict.map(|command| command.effect) {
         Ok(Effect::Program) => meter.programs += 1,
         Ok(Effect::Erase(_)) => meter.erases += 1,
-        Ok(Effect::WriteStatus) => meter.writes += 1,
+        Ok(Effect::WriteStatus) => meter.register_writes += 1,
         Ok(_) => {}
         Err(_) => meter.ignored += 1,
     }

@@ -30,7 +30,7 @@ pub struct Meter {
     /// Accepted erases.
     pub erases: u32,
     /// Accepted status writes.
-    pub writes: u32,
+    pub register_writes: u32,
     /// Ignored transactions.
     pub ignored: u32,
 }
@@ -108,7 +108,7 @@ pub struct Bill {
     /// The rise of erases.
     pub erases: u32,
     /// The rise of register writes.
-    pub writes: u32,
+    pub register_writes: u32,
     /// Bytes of the tape.
     pub length: u64,
 }
@@ -373,7 +373,7 @@ const _: () = {
     use core::mem::{align_of, offset_of, size_of};
     assert!(size_of::<Regs>() == 8 && offset_of!(Regs, awake) == 4);
     assert!(size_of::<Meter>() == 16 && offset_of!(Meter, ignored) == 12);
-    assert!(offset_of!(Meter, erases) == 4 && offset_of!(Meter, writes) == 8);
+    assert!(offset_of!(Meter, erases) == 4 && offset_of!(Meter, register_writes) == 8);
     assert!(align_of::<Meter>() == 4);
     assert!(size_of::<Answer>() == 40 && offset_of!(Answer, index) == 8);
     assert!(offset_of!(Answer, regs) == 16 && offset_of!(Answer, meter) == 24);
@@ -387,5 +387,5 @@ const _: () = {
     use core::mem::{offset_of, size_of};
     assert!(size_of::<Tape>() == 24 && offset_of!(Tape, length) == 16);
     assert!(size_of::<Bill>() == 40 && offset_of!(Bill, programs) == 16);
-    assert!(offset_of!(Bill, writes) == 24 && offset_of!(Bill, length) == 32);
+    assert!(offset_of!(Bill, register_writes) == 24 && offset_of!(Bill, length) == 32);
 };

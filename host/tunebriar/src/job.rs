@@ -137,7 +137,7 @@ pub fn quote(part: Part, setting: u8, job: &[u8], payload: &[u8]) -> Result<Bill
     Ok(Bill {
         programs: bill.programs,
         erases: bill.erases,
-        register_writes: bill.writes,
+        register_writes: bill.register_writes,
         tape: bill.length,
     })
 }

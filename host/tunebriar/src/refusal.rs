@@ -26,7 +26,9 @@ impl Refusal {
         }
     }
 
-    pub(crate) fn new(number: u32, index: u64) -> Refusal {
+    /// A refusal that was answered before, from its number and index.
+    #[must_use]
+    pub fn new(number: u32, index: u64) -> Refusal {
         Refusal { number, index }
     }
 

@@ -138,7 +138,7 @@ impl Meter {
         ffi::Meter {
             programs: self.programs,
             erases: self.erases,
-            writes: self.register_writes,
+            register_writes: self.register_writes,
             ignored: self.ignored,
         }
     }
@@ -147,7 +147,7 @@ impl Meter {
         Meter {
             programs: meter.programs,
             erases: meter.erases,
-            register_writes: meter.writes,
+            register_writes: meter.register_writes,
             ignored: meter.ignored,
         }
     }

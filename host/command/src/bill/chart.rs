@@ -1,331 +1,213 @@
-//! The bill as a picture: bars for what was carried out and, hatched beside
-//! them, what was sent and ignored. Who bills the second as the first, as was
-//! once done, sees the difference at a glance.
+//! The bill as a picture: a row a department, its bar full for what the chip
+//! carried out and hatched for what was sent and ignored, its figures beside it.
+//! The largest come first; of more than sixty, the smaller ones share a row.
 
-use super::month::Account;
-use super::prices::{Prices, decimal};
-use super::table::turned_away;
+use super::figures::Bill;
+use super::hatch::Area;
+use super::layout::{LEFT, Layout, MARGIN, NAME, TOP, cells, column_heads};
+use super::letters::{escaped, plain};
+use super::notes;
+use super::pixels::{fitted, pixels};
+use super::prices::Prices;
+use super::series::{SERIES, Series, counts};
+use super::sums::{Fault, Line, Sums, sums};
 use crate::numbers::grouped;
 use std::fmt::Write;
 
-/// Where the bars stand, in pixels.
-const TOP: f64 = 110.0;
-const PLOT: f64 = 320.0;
-const GAP: f64 = 34.0;
-const RIGHT: f64 = 20.0;
-/// No picture is narrower, so that its legend fits.
-const NARROWEST: f64 = 860.0;
-/// What a letter takes, roughly, and rather too much than too little.
-const LETTER: f64 = 7.0;
+/// Departments with a row of their own.
+pub const ROWS: usize = 60;
+/// Pixels below which a part of a bar is narrow.
+const NARROW: f64 = 2.0;
 
-/// A kind of bar: its class, its colour, whether it is hatched, its words.
-struct Series {
-    class: &'static str,
-    colour: &'static str,
-    hatched: bool,
-    words: &'static str,
+/// The picture, as a file of its own.
+///
+/// # Errors
+///
+/// Where the bill cannot be added up.
+pub fn render(bill: &Bill) -> Result<String, Fault> {
+    let sums = sums(bill)?;
+    let declaration = "<?xml version=\"1.0\" encoding=\"UTF-8\"?>\n";
+    Ok(format!("{declaration}{}", picture(bill, &sums)))
 }
 
-const SERIES: [Series; 5] = [
-    Series {
-        class: "programs",
-        colour: "#1f5fa8",
-        hatched: false,
-        words: "programs",
-    },
-    Series {
-        class: "programs-ignored",
-        colour: "#1f5fa8",
-        hatched: true,
-        words: "programs ignored",
-    },
-    Series {
-        class: "erases",
-        colour: "#c2571a",
-        hatched: false,
-        words: "erases",
-    },
-    Series {
-        class: "erases-ignored",
-        colour: "#c2571a",
-        hatched: true,
-        words: "erases ignored",
-    },
-    Series {
-        class: "others-ignored",
-        colour: "#5a5a5a",
-        hatched: true,
-        words: "others ignored",
-    },
-];
-
-/// The figures of a department, in the order of the series.
-fn figures(account: &Account) -> [u64; 5] {
-    [
-        account.counts.programs,
-        account.programs_ignored,
-        account.counts.erases,
-        account.erases_ignored,
-        account.others_ignored(),
-    ]
-}
-
-/// How large everything is.
-struct Layout {
-    top: u64,
-    step: u64,
-    left: f64,
-    slot: f64,
-    group: f64,
-    width: f64,
-    height: f64,
-}
-
-impl Layout {
-    fn of(accounts: &[Account], feet: &[String]) -> Layout {
-        let most = accounts.iter().flat_map(figures).max().unwrap_or(0).max(1);
-        let step = step(most);
-        let top = most.div_ceil(step).saturating_mul(step);
-        let number = LETTER * grouped(top).len() as f64;
-        let (left, slot) = (number + 55.0, (number + 4.0).max(30.0));
-        let groups = accounts.len().max(1) as f64;
-        let spread = (NARROWEST - left - RIGHT) / groups;
-        let group = (slot * SERIES.len() as f64 + GAP).max(spread);
-        let foot = feet.iter().map(|foot| foot.chars().count()).max();
-        let foot = LETTER * foot.unwrap_or(0) as f64 + 2.0 * RIGHT;
-        Layout {
-            top,
-            step,
-            left,
-            slot,
-            group,
-            width: (left + group * groups + RIGHT).max(foot).ceil(),
-            height: TOP + PLOT + 90.0 + 18.0 * feet.len() as f64,
-        }
-    }
-
-    /// Where a department's first bar begins.
-    fn start(&self, place: usize) -> f64 {
-        let bars = self.slot * SERIES.len() as f64;
-        self.left + self.group * place as f64 + (self.group - bars) / 2.0
-    }
-
-    /// How high a bar for this count is.
-    fn high(&self, count: u64) -> f64 {
-        PLOT * count as f64 / self.top as f64
-    }
-}
-
-/// The distance of the lines across: 1, 2 or 5 and zeros, some five of them.
-fn step(most: u64) -> u64 {
-    let mut power = 1_u64;
-    loop {
-        for digit in [1, 2, 5] {
-            let step = power.saturating_mul(digit);
-            if most.div_ceil(step) <= 5 {
-                return step;
-            }
-        }
-        power = power.saturating_mul(10);
-    }
-}
-
-/// The picture.
+/// The picture, as a part of a page.
 #[must_use]
-pub fn svg(accounts: &[Account], prices: &Prices) -> String {
-    let feet = feet(accounts);
-    let layout = Layout::of(accounts, &feet);
-    let mut text = head(&layout);
+pub fn picture(bill: &Bill, sums: &Sums) -> String {
+    let (lines, rest) = sums.largest(ROWS);
+    let layout = Layout::new(&bill.prices, &lines, sums);
+    let mut text = head(bill, &layout);
     legend(&mut text);
-    axes(&mut text, &layout);
-    for (place, account) in accounts.iter().enumerate() {
-        let x = layout.start(place);
-        bars(&mut text, &layout, account, x);
-        names(&mut text, &layout, account, prices, x);
+    axis(&mut text, &layout, TOP + layout.high * lines.len() as f64);
+    heads(&mut text, &layout, &bill.prices);
+    for (place, line) in lines.iter().enumerate() {
+        let y = layout.row(place);
+        bar(&mut text, &layout, line, y);
+        row(&mut text, &layout, line, y, None);
     }
-    for (place, foot) in feet.iter().enumerate() {
-        let y = TOP + PLOT + 84.0 + 18.0 * place as f64;
-        let foot = escaped(foot);
-        let _ = writeln!(
-            text,
-            r##"<text x="20" y="{y}" fill="#a01010">{foot}</text>"##
+    if let Some(rest) = &rest {
+        let words = departments(sums.lines.len() - lines.len(), "smaller ");
+        row(
+            &mut text,
+            &layout,
+            rest,
+            layout.row(lines.len()),
+            Some(&words),
         );
     }
-    text.push_str("</svg>\n");
-    text
+    let refused = match sums.total.refused {
+        0 => String::new(),
+        1 => "; 1 play refused".to_string(),
+        more => format!("; {} plays refused", grouped(more)),
+    };
+    let words = departments(sums.lines.len(), "") + &refused;
+    let y = layout.row(layout.rows - 1);
+    row(&mut text, &layout, &sums.total, y, Some(&words));
+    text + "</svg>\n"
 }
 
-/// The tapes that were refused.
-fn feet(accounts: &[Account]) -> Vec<String> {
-    let all = accounts.iter().flat_map(|account| {
-        let name = &account.department;
-        let told = account.refused.iter();
-        told.map(move |(tape, why)| format!("not billed: {name}: {}", turned_away(tape, *why)))
-    });
-    all.collect()
+fn departments(count: usize, which: &str) -> String {
+    match count {
+        1 => format!("1 {which}department"),
+        more => format!("{} {which}departments together", grouped(more)),
+    }
 }
 
-fn head(layout: &Layout) -> String {
+fn head(bill: &Bill, layout: &Layout) -> String {
     let Layout { width, height, .. } = layout;
-    let mut text = format!(
-        "<?xml version=\"1.0\" encoding=\"UTF-8\"?>\n\
-         <svg xmlns=\"http://www.w3.org/2000/svg\" width=\"{width}\" height=\"{height}\" \
-         viewBox=\"0 0 {width} {height}\" font-family=\"sans-serif\" font-size=\"12\">\n<defs>\n"
+    let title = escaped(&format!("{}: commands by department", notes::title(bill)));
+    let state = escaped(&notes::state(bill));
+    format!(
+        "<svg xmlns=\"http://www.w3.org/2000/svg\" width=\"{width}\" height=\"{height}\" \
+         viewBox=\"0 0 {width} {height}\" font-family=\"sans-serif\" font-size=\"12\" role=\"img\">\n\
+         <title>{title}</title>\n\
+         <path class=\"paper\" fill=\"#ffffff\" d=\"M0 0H{width}V{height}H0z\"/>\n\
+         <text x=\"16\" y=\"30\" font-size=\"20\" font-weight=\"bold\">{title}</text>\n\
+         <text x=\"16\" y=\"50\" fill=\"#333333\">The largest first. The month is \
+         {state}.</text>\n"
+    )
+}
+
+/// What the parts of a bar are: full ones in one line, hatched ones below.
+fn legend(text: &mut String) {
+    for (hatched, words, y) in [
+        (false, "carried out by the chip:", 62.0),
+        (true, "sent to the chip, and ignored:", 83.0),
+    ] {
+        let _ = writeln!(text, "<text x=\"16\" y=\"{}\">{words}</text>", y + 11.0);
+        let mut area = Area {
+            x: LEFT,
+            y,
+            wide: 22.0,
+            high: 14.0,
+        };
+        let chosen = |series: &&Series| series.hatch.is_some() == hatched;
+        for series in SERIES.iter().filter(chosen) {
+            let words = series.words.trim_end_matches(" ignored");
+            let (x, base) = (area.x + 28.0, y + 11.0);
+            let key = part(series, area, "class=\"key\"", words);
+            let _ = writeln!(text, "{key}<text x=\"{x:.1}\" y=\"{base}\">{words}</text>");
+            area.x = x + 28.0 + pixels(words);
+        }
+    }
+}
+
+/// A part of a bar, or its key in the legend. The narrowest parts have no room
+/// for a hatch, and a whole outline would make them wider than they are.
+fn part(series: &Series, area: Area, attributes: &str, title: &str) -> String {
+    let Area { x, y, wide, high } = area;
+    let (fill, narrow) = (series.fill(), wide < NARROW);
+    let (outline, hatch) = match (narrow, series.hatch) {
+        (false, _) => (0.75, series.hatched(area)),
+        (true, Some(_)) => (0.3, String::new()),
+        (true, None) => (0.0, String::new()),
+    };
+    format!(
+        "<rect {attributes} x=\"{x:.3}\" y=\"{y:.1}\" width=\"{wide:.3}\" height=\"{high:.1}\" \
+         fill=\"{fill}\" stroke=\"#222222\" stroke-width=\"{outline}\">\
+         <title>{title}</title></rect>{hatch}"
+    )
+}
+
+/// The lines across, with their numbers above.
+fn axis(text: &mut String, layout: &Layout, floor: f64) {
+    let _ = writeln!(
+        text,
+        "<text class=\"axis\" x=\"{LEFT}\" y=\"{}\" fill=\"#333333\">commands</text>",
+        TOP - 28.0
     );
-    for series in SERIES.iter().filter(|series| series.hatched) {
-        let Series { class, colour, .. } = series;
+    for count in (0..=layout.most / layout.step).map(|line| line * layout.step) {
+        let x = LEFT + layout.long(count);
         let _ = writeln!(
             text,
-            "<pattern id=\"{class}\" width=\"7\" height=\"7\" patternUnits=\"userSpaceOnUse\" \
-             patternTransform=\"rotate(45)\"><path fill=\"#ffffff\" d=\"M0 0h7v7h-7z\"/>\
-             <path fill=\"{colour}\" d=\"M0 0h3v7h-3z\"/></pattern>"
+            "<path class=\"line\" stroke=\"#c8c8c8\" d=\"M{x:.2} {}V{floor}\"/>\
+             <text x=\"{x:.2}\" y=\"{}\" text-anchor=\"middle\">{}</text>",
+            TOP - 6.0,
+            TOP - 11.0,
+            grouped(count)
         );
     }
+}
+
+fn heads(text: &mut String, layout: &Layout, prices: &Prices) {
+    for (heads, edge) in column_heads(prices).iter().zip(layout.edges) {
+        let heads = heads.iter().zip([TOP - 25.0, TOP - 11.0]);
+        for (head, y) in heads.filter(|(head, _)| !head.is_empty()) {
+            let head = escaped(head);
+            let _ = writeln!(
+                text,
+                "<text x=\"{edge:.1}\" y=\"{y}\" text-anchor=\"end\" fill=\"#333333\">{head}</text>"
+            );
+        }
+    }
+}
+
+/// The parts of a department's bar, one behind the other.
+fn bar(text: &mut String, layout: &Layout, line: &Line, y: f64) {
+    let name = escaped(line.name);
+    let mut before = 0;
+    let parts = SERIES.iter().zip(counts(&line.figures));
+    for (series, count) in parts.filter(|(_, count)| *count > 0) {
+        let area = Area {
+            x: LEFT + layout.long(before),
+            y: y + 2.5,
+            wide: layout.long(count.into()),
+            high: layout.high - 5.0,
+        };
+        before += u128::from(count);
+        let (class, words) = (series.class, series.words);
+        let attributes =
+            format!("class=\"{class}\" data-department=\"{name}\" data-count=\"{count}\"");
+        let title = format!("{name}: {words} {}", grouped(count));
+        let _ = writeln!(text, "{}", part(series, area, &attributes, &title));
+    }
+}
+
+/// The name of a line to the left, and its figures to the right. A sum of
+/// several departments has words where they have their bars.
+fn row(text: &mut String, layout: &Layout, line: &Line, y: f64, sum: Option<&str>) {
+    let below = y + layout.high;
+    let base = y + layout.high / 2.0 + 4.0;
+    let name = escaped(&fitted(&plain(line.name), NAME));
+    let weight = if sum.is_some() { "bold" } else { "normal" };
     let _ = write!(
         text,
-        "</defs>\n<path class=\"paper\" fill=\"#ffffff\" d=\"M0 0H{width}V{height}H0z\"/>\n\
-         <text x=\"20\" y=\"34\" font-size=\"20\" font-weight=\"bold\">\
-         Programs and erases by department</text>\n\
-         <text x=\"20\" y=\"56\" fill=\"#444444\">\
-         Full: carried out by the chip. Hatched: sent to the chip and ignored.</text>\n"
+        "<path class=\"below\" stroke=\"#dddddd\" d=\"M16 {below}H{}\"/>\
+         <text class=\"name\" x=\"16\" y=\"{base}\" font-weight=\"{weight}\">{name}</text>",
+        layout.width - MARGIN
     );
-    text
-}
-
-fn fill(series: &Series) -> String {
-    match series.hatched {
-        true => format!("url(#{})", series.class),
-        false => series.colour.to_string(),
-    }
-}
-
-fn legend(text: &mut String) {
-    let mut x = 20.0;
-    for series in &SERIES {
-        let (fill, colour, words) = (fill(series), series.colour, series.words);
-        let _ = writeln!(
+    if let Some(words) = sum {
+        let x = LEFT + 6.0;
+        let _ = write!(
             text,
-            "<path class=\"key\" fill=\"{fill}\" stroke=\"{colour}\" d=\"M{x} 72h16v14h-16z\"/>\
-             <text x=\"{}\" y=\"84\">{words}</text>",
-            x + 22.0
+            "<text x=\"{x}\" y=\"{base}\" fill=\"#333333\">{words}</text>"
         );
-        x += 48.0 + LETTER * words.len() as f64;
     }
-}
-
-fn axes(text: &mut String, layout: &Layout) {
-    let (left, right, floor) = (layout.left, layout.width - RIGHT, TOP + PLOT);
-    for count in (0..=layout.top / layout.step).map(|line| line * layout.step) {
-        let y = floor - layout.high(count);
-        let (at, shown) = (y + 4.0, grouped(count));
-        let _ = writeln!(
+    for (cell, edge) in cells(line, layout.prices).iter().zip(layout.edges) {
+        let _ = write!(
             text,
-            "<path class=\"line\" stroke=\"#d0d0d0\" d=\"M{left} {y:.3}H{right}\"/>\
-             <text x=\"{}\" y=\"{at:.3}\" text-anchor=\"end\">{shown}</text>",
-            left - 8.0
+            "<text class=\"figure\" x=\"{edge:.1}\" y=\"{base}\" text-anchor=\"end\" \
+             font-weight=\"{weight}\">{cell}</text>"
         );
     }
-    let middle = TOP + PLOT / 2.0;
-    let centre = (left + right) / 2.0;
-    let _ = writeln!(
-        text,
-        "<path class=\"axis\" stroke=\"#000000\" fill=\"none\" d=\"M{left} {TOP}V{floor}H{right}\"/>\n\
-         <text class=\"axis\" transform=\"translate(22 {middle}) rotate(-90)\" \
-         text-anchor=\"middle\">commands</text>\n\
-         <text class=\"axis\" x=\"{centre}\" y=\"{}\" text-anchor=\"middle\">\
-         department, and its amount</text>",
-        floor + 62.0
-    );
-}
-
-/// A department's five bars, each with its number.
-fn bars(text: &mut String, layout: &Layout, account: &Account, x: f64) {
-    let name = escaped(&account.department);
-    for (place, (series, count)) in SERIES.iter().zip(figures(account)).enumerate() {
-        let left = x + layout.slot * place as f64;
-        let high = layout.high(count);
-        let (top, wide) = (TOP + PLOT - high, layout.slot - 4.0);
-        let Series {
-            class,
-            colour,
-            words,
-            ..
-        } = series;
-        let (fill, shown) = (fill(series), grouped(count));
-        let _ = writeln!(
-            text,
-            "<rect class=\"{class}\" data-department=\"{name}\" data-count=\"{count}\" \
-             x=\"{left:.1}\" y=\"{top:.3}\" width=\"{wide:.1}\" height=\"{high:.3}\" \
-             fill=\"{fill}\" stroke=\"{colour}\"><title>{name}: {shown} {words}</title></rect>\
-             <text x=\"{:.1}\" y=\"{:.3}\" font-size=\"11\" text-anchor=\"middle\" \
-             stroke=\"#ffffff\" stroke-width=\"3\" paint-order=\"stroke\">{shown}</text>",
-            left + wide / 2.0,
-            top - 4.0,
-        );
-    }
-}
-
-/// The department's name and its amount, below its bars.
-fn names(text: &mut String, layout: &Layout, account: &Account, prices: &Prices, x: f64) {
-    let middle = x + layout.slot * SERIES.len() as f64 / 2.0;
-    let room = (layout.group / 7.5) as usize;
-    let name = escaped(&shortened(&account.department, room));
-    let amount = decimal(prices.amount(account.counts));
-    let amount = escaped(&format!("{amount} {}", prices.currency));
-    let _ = writeln!(
-        text,
-        "<text x=\"{middle:.1}\" y=\"{}\" font-weight=\"bold\" text-anchor=\"middle\">{name}</text>\
-         <text x=\"{middle:.1}\" y=\"{}\" text-anchor=\"middle\">{amount}</text>",
-        TOP + PLOT + 20.0,
-        TOP + PLOT + 38.0,
-    );
-}
-
-fn shortened(name: &str, room: usize) -> String {
-    match name.chars().count() > room {
-        true => name
-            .chars()
-            .take(room.saturating_sub(1))
-            .chain(['…'])
-            .collect(),
-        false => name.to_string(),
-    }
-}
-
-/// Text that is safe between tags and in quotes; XML has no control characters.
-fn escaped(text: &str) -> String {
-    let mut safe = String::new();
-    for letter in text.chars() {
-        match letter {
-            '&' => safe.push_str("&amp;"),
-            '<' => safe.push_str("&lt;"),
-            '>' => safe.push_str("&gt;"),
-            '"' => safe.push_str("&quot;"),
-            _ if letter.is_control() => safe.push(' '),
-            _ => safe.push(letter),
-        }
-    }
-    safe
-}
-
-#[cfg(test)]
-mod tests {
-    use super::*;
-
-    #[test]
-    fn the_lines_across_are_round_and_few() {
-        for (most, wanted) in [(1, 1), (5, 1), (6, 2), (11, 5), (26, 10), (1_024, 500)] {
-            assert_eq!(step(most), wanted, "{most}");
-        }
-        assert!(u64::MAX.div_ceil(step(u64::MAX)) <= 5);
-    }
-
-    #[test]
-    fn a_name_cannot_break_the_picture() {
-        assert_eq!(
-            escaped("<R&D> \"x\"\u{7}"),
-            "&lt;R&amp;D&gt; &quot;x&quot; "
-        );
-        assert_eq!(shortened("cardiology", 5), "card…");
-    }
+    text.push('\n');
 }

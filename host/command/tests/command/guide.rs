@@ -1,8 +1,7 @@
 //! docs/GUIDE.md, typed as it stands.
 
-use crate::common::{Folder, TUNEBRIAR};
-use std::path::{Path, PathBuf};
-use std::process::Command;
+use crate::common::Folder;
+use std::path::PathBuf;
 
 fn guide() -> String {
     let path = PathBuf::from(env!("CARGO_MANIFEST_DIR")).join("../../docs/GUIDE.md");
@@ -27,13 +26,7 @@ fn blocks(text: &str) -> Vec<(String, Vec<&str>)> {
 
 /// Types one line into a shell, both outputs together.
 fn typed(folder: &Folder, line: &str) -> String {
-    let home = Path::new(TUNEBRIAR).parent().expect("a folder");
-    let before = std::env::var("PATH").unwrap_or_default();
-    let mut shell = Command::new("sh");
-    shell.args(["-c", &format!("exec 2>&1; {line}")]);
-    shell.env("PATH", format!("{}:{before}", home.display()));
-    let output = shell.current_dir(&folder.path).output().expect("sh");
-    String::from_utf8(output.stdout).expect("text")
+    folder.shell(&format!("exec 2>&1; {line}")).out
 }
 
 #[test]

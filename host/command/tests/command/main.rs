@@ -1,12 +1,18 @@
-//! The command `tunebriar` as people call it: its output, its exit status and
-//! the files it leaves.
+//! The command `tunebriar` as people call it: its output, its exit status, its
+//! book and the files it leaves.
 
-mod bad_files;
-mod bad_words;
+mod boards;
 mod common;
-mod good;
+mod crowd;
 mod guide;
-mod month;
+mod inputs;
+mod jobs;
+mod killed;
+mod ledgers;
+mod months;
+mod outputs;
+mod plays;
 mod refused;
-mod whole;
-mod xml;
+mod sample;
+mod tapes;
+mod usage;

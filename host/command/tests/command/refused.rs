@@ -1,80 +1,58 @@
-//! Every refusal that a call can meet: exit status 1, the file, the record, the
-//! number and the words, and no file changed.
+//! Refusals: exit status 1, what each is about, the record, the number and the
+//! words, and no file changed.
 
-use crate::common::{Folder, SIZE, record};
+use crate::common::{Folder, program, record};
 
-/// A chip, a good tape of three records and a good job.
+/// A board and a good job.
 fn folder(name: &str) -> Folder {
-    let folder = Folder::with_chip(name);
-    folder.write("a.tape", record(1, 0, &[]).repeat(3));
+    let folder = Folder::with_month(name);
     folder.write("a.txt", "lay 0 hex 11\n");
     folder.served("job a.txt a.job a.payload");
     folder
 }
 
+/// A board whose meter has no room is told as that, not as its tape's fault,
+/// and nothing of the call is kept.
 #[test]
-fn refusal_2_an_array_of_another_size() {
-    let folder = folder("refusal-2");
-    for size in [0, SIZE - 1, SIZE + 1] {
-        folder.write("bad.array", vec![0xFF; size]);
-        let says = ["bad.array: refused 2: the array has not the chip's size"];
-        folder.fails("transact bad.array chip.state 06", 1, &says);
-        folder.fails("replay a.tape bad.array chip.state", 1, &says);
-        folder.fails("new b.array b.state --image bad.array", 1, &says);
-    }
-}
-
-#[test]
-fn refusal_3_registers_not_well_formed() {
-    let folder = folder("refusal-3");
-    for (status, awake) in [
-        ("0x0001", "yes"),
-        ("0x0003", "no"),
-        ("0x0400", "yes"),
-        ("0x8000", "yes"),
-    ] {
-        folder.state(status, awake, [0; 4]);
-        let says = ["chip.state: refused 3: the registers are not well formed"];
-        folder.fails("transact chip.array chip.state 06", 1, &says);
-        folder.fails("transact chip.array chip.state finish", 1, &says);
-        folder.fails("transact chip.array chip.state power-cycle", 1, &says);
-        folder.fails("replay a.tape chip.array chip.state", 1, &says);
-    }
-}
-
-#[test]
-fn refusals_4_and_5_of_a_transaction() {
-    let folder = folder("refusal-4");
-    let bytes = "00".repeat(4_093);
-    let read = |bytes: &str| format!("transact chip.array chip.state --dry-run 03 000000 {bytes}");
-    folder.served(&read(&bytes[2..]));
-    folder.fails(&read(&bytes), 1, &["transaction: refused 4: "]);
-    folder.fails(
-        "transact chip.array chip.state 05 --bits 8",
-        1,
-        &["transaction: refused 5: "],
-    );
-    folder.fails(
-        "transact chip.array chip.state 05 --bits 4294967295",
-        1,
-        &["refused 5: "],
-    );
-}
-
-#[test]
-fn refusal_7_a_full_meter() {
+fn refusal_7_is_the_board_s() {
     let folder = folder("refusal-7");
-    for place in 0..4 {
-        let mut counts = [0; 4];
-        counts[place] = u32::MAX;
-        folder.state("0", "yes", counts);
-        let says = ["chip.state: refused 7: a count of the meter has no room"];
-        folder.fails("transact chip.array chip.state 05", 1, &says);
-        counts[place] = u32::MAX - 2;
-        folder.state("0", "yes", counts);
-        folder.fails("replay a.tape chip.array chip.state", 1, &says);
-        folder.fails("replay a.tape chip.array chip.state --first 0", 1, &says);
-    }
+    folder.write("a.tape", record(1, 0, &[]).repeat(3));
+    folder.write(
+        "b.csv",
+        "department,board,tape\nlab,b,a.tape\nlab,full,a.tape\n",
+    );
+    folder.board_in("full", "0", "yes", [0, u32::MAX - 2, 0, 0]);
+    let says = ["board full: a.tape was not played: refused 7: a count of the meter has no room"];
+    folder.fails("play full a.tape", 1, &says);
+    folder.fails(
+        "ledger import b.csv",
+        1,
+        &["b.csv: line 3: board full: a.tape was not played"],
+    );
+    folder.board_in("fuller", "0", "yes", [u32::MAX; 4]);
+    folder.fails("transact fuller 05", 1, &["board fuller: refused 7: "]);
+    // The room is that of the whole tape, and of one record there is enough.
+    folder.served("transact full 05");
+    folder.whole("2026-11");
+}
+
+/// What someone has done to the book by hand is told as the board's, too.
+#[test]
+fn refusal_3_is_the_board_s() {
+    let folder = folder("refusal-3");
+    folder.write("a.tape", program(0, 1));
+    folder
+        .book()
+        .execute("UPDATE board SET status = 1", [])
+        .expect("changed");
+    let says = ["board b: a.tape was not played: refused 3: the registers are not well formed"];
+    folder.fails("play b a.tape", 1, &says);
+    folder.fails("transact b finish", 1, &["board b: refused 3: "]);
+    folder.fails(
+        "quote a.job a.payload --board b",
+        1,
+        &["board b: refused 3: "],
+    );
 }
 
 #[test]
@@ -156,29 +134,11 @@ fn a_text_is_refused_with_its_line() {
 }
 
 #[test]
-fn refusal_30_a_torn_tape() {
-    let folder = folder("refusal-30");
-    folder.write("bad.tape", vec![0; 263]);
-    let says = ["bad.tape: refused 30: the tape is not whole records"];
-    folder.fails("replay bad.tape chip.array chip.state", 1, &says);
-    folder.fails("replay bad.tape chip.array chip.state --first 0", 1, &says);
-    folder.fails("tape b.txt bad.tape --back", 1, &says);
-    folder.fails("list bad.tape", 1, &says);
-    assert_eq!(folder.run("list bad.tape").out, "refused 30 0000\n");
-    folder.write("long.tape", record(1, 0, &[]).repeat(249));
-    folder.fails(
-        "list long.tape",
-        1,
-        &["long.tape: over 65,472 bytes: refused 30: "],
-    );
-    assert_eq!(folder.run("list long.tape").out, "refused 30 0000\n");
-}
-
-#[test]
-fn refusal_31_a_bad_record() {
+fn refusals_30_and_31_of_a_tape() {
     let folder = folder("refusal-31");
-    let good = record(1, 0, &[]);
+    let good = record(1, 0, &[]).repeat(3);
     let long = [vec![1, 5], vec![0; 262]].concat();
+    let torn = ("refused 30: the tape is not whole records", vec![0; 263]);
     let bad = [
         record(3, 0, &[]),
         record(0, 16, &[]),
@@ -186,16 +146,18 @@ fn refusal_31_a_bad_record() {
         record(2, 0, &[1]),
         long,
     ];
-    for row in bad {
-        folder.write(
-            "bad.tape",
-            [good.clone(), good.clone(), good.clone(), row].concat(),
-        );
-        let says = ["bad.tape: record 3: refused 31: a tape record outside the rules"];
-        folder.fails("replay bad.tape chip.array chip.state", 1, &says);
-        folder.fails("replay bad.tape chip.array chip.state --first 1", 1, &says);
+    let bad = bad.map(|row| {
+        let says = "record 3: refused 31: a tape record outside the rules";
+        (says, [good.clone(), row].concat())
+    });
+    for (says, tape) in bad.into_iter().chain([torn]) {
+        folder.write("bad.tape", tape);
+        let says = [&format!("bad.tape: {says}")[..]];
+        folder.fails("play b bad.tape --strict", 1, &says);
+        folder.fails("play b bad.tape --dry-run --first 1", 1, &says);
         folder.fails("tape b.txt bad.tape --back", 1, &says);
         folder.fails("list bad.tape", 1, &says);
-        assert_eq!(folder.run("list bad.tape").out, "refused 31 0003\n");
+        folder.fails("list bad.tape --long --board b", 1, &says);
     }
+    assert_eq!(folder.run("list bad.tape").out, "refused 30 0000\n");
 }

@@ -166,11 +166,11 @@ impl Rng {
 
 /// Four counts, in the meter's order.
 pub fn meter(counts: [u32; 4]) -> Meter {
-    let [programs, erases, writes, ignored] = counts;
+    let [programs, erases, register_writes, ignored] = counts;
     Meter {
         programs,
         erases,
-        writes,
+        register_writes,
         ignored,
     }
 }

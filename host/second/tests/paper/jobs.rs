@@ -116,7 +116,7 @@ fn a_job_with_guards_does_what_it_means() {
     let expected = Meter {
         programs: 2,
         erases: 1,
-        writes: 4,
+        register_writes: 4,
         ignored: 0,
     };
     assert_eq!(answer.meter, expected);

@@ -127,7 +127,7 @@ pub fn meter(mut meter: Meter, verdict: u32, bytes: &[u8]) -> Meter {
     match (verdict, bytes.first()) {
         (0, Some(0x02)) => meter.programs += 1,
         (0, Some(0x20 | 0x52 | 0xD8 | 0xC7 | 0x60)) => meter.erases += 1,
-        (0, Some(0x01)) => meter.writes += 1,
+        (0, Some(0x01)) => meter.register_writes += 1,
         (0, _) => {}
         _ => meter.ignored += 1,
     }

@@ -46,7 +46,7 @@ fn rise(before: Meter, bill: Bill) -> Meter {
     Meter {
         programs: before.programs + bill.programs,
         erases: before.erases + bill.erases,
-        writes: before.writes + bill.writes,
+        register_writes: before.register_writes + bill.register_writes,
         ignored: before.ignored,
     }
 }
@@ -64,7 +64,7 @@ fn accepted_jobs_do_what_they_mean_and_cost_their_quote() {
         let meter = Meter {
             programs: 3,
             erases: 2,
-            writes: 1,
+            register_writes: 1,
             ignored: 9,
         };
         let bill = quote(1, setting, &job, &payload);

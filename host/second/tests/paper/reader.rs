@@ -175,7 +175,7 @@ fn an_empty_tape_is_served_even_by_a_full_meter() {
     let full = Meter {
         programs: FULL,
         erases: FULL,
-        writes: FULL,
+        register_writes: FULL,
         ignored: FULL,
     };
     let regs = Regs {
@@ -223,7 +223,7 @@ fn replay_first_checks_all_and_plays_k() {
     ] {
         let answer = replay_first(1, IDLE, Meter::default(), &mut array, &tape, k);
         assert_eq!((answer.number, answer.regs.status), (0, status));
-        assert_eq!(answer.meter.writes, u32::from(k >= 2));
+        assert_eq!(answer.meter.register_writes, u32::from(k >= 2));
     }
 }
 
@@ -251,10 +251,10 @@ fn the_pin_level_of_a_record_is_heeded() {
         awake: 1,
     };
     let mut array = vec![0xFF; SIZE];
-    for (byte_3, writes) in [(0, 0), (8, 1)] {
+    for (byte_3, register_writes) in [(0, 0), (8, 1)] {
         let tape = tape_record(0, byte_3, &[0x01, 0x00]);
         let answer = replay(1, locked_by_pin, Meter::default(), &mut array, &tape);
-        assert_eq!(answer.meter.writes, writes);
-        assert_eq!(answer.meter.ignored, 1 - writes);
+        assert_eq!(answer.meter.register_writes, register_writes);
+        assert_eq!(answer.meter.ignored, 1 - register_writes);
     }
 }

@@ -7,7 +7,7 @@ use second::{Bill, Meter, Regs, Tape, finish, power_cycle, quote, replay, transa
 const MARKED: Meter = Meter {
     programs: 11,
     erases: 22,
-    writes: 33,
+    register_writes: 33,
     ignored: 44,
 };
 
@@ -41,7 +41,7 @@ fn a_transaction_checks_1_to_7_in_order() {
         let leftover = if due(5) { 256 } else { 0 };
         let mut out = vec![0x55; if due(6) { n - 1 } else { n + 3 }];
         let mut meter = MARKED;
-        meter.writes = if due(7) { FULL } else { FULL - 1 };
+        meter.register_writes = if due(7) { FULL } else { FULL - 1 };
         let mut bytes = program(0, &[]);
         bytes.resize(n, 0xFF);
         let lent = &mut array[..size];

@@ -148,10 +148,14 @@ fn only_accepted_writes_count() {
         let Meter {
             programs,
             erases,
-            writes,
+            register_writes,
             ignored,
         } = host.send(&bytes).meter;
-        assert_eq!([programs, erases, writes, ignored], counts, "{bytes:02X?}");
+        assert_eq!(
+            [programs, erases, register_writes, ignored],
+            counts,
+            "{bytes:02X?}"
+        );
     }
 }
 

@@ -114,7 +114,7 @@ fn agree(tape: &Tape, ground: u8) -> Result<(), String> {
         awake: answer.regs.awake == 1,
         programs: answer.meter.programs,
         erases: answer.meter.erases,
-        writes: answer.meter.writes,
+        register_writes: answer.meter.register_writes,
         ignored: answer.meter.ignored,
     };
     if answer.number == 0 && played.is_ok() && told == state && first == second {

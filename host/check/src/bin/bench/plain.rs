@@ -21,7 +21,7 @@ pub struct State {
     pub awake: bool,
     pub programs: u32,
     pub erases: u32,
-    pub writes: u32,
+    pub register_writes: u32,
     pub ignored: u32,
 }
 
@@ -68,7 +68,12 @@ fn admit(state: &State, array: &[u8], tape: &[u8]) -> Result<(), Refused> {
         return Err((31, index));
     }
     let records = (tape.len() / RECORD) as u64;
-    let counts = [state.programs, state.erases, state.writes, state.ignored];
+    let counts = [
+        state.programs,
+        state.erases,
+        state.register_writes,
+        state.ignored,
+    ];
     let full = |&count: &u32| u64::from(count) + records > u64::from(u32::MAX);
     if counts.iter().any(full) {
         return Err((7, 0));
@@ -113,7 +118,7 @@ fn transact(state: &mut State, array: &mut [u8], record: &[u8]) {
     match carry_out(state, array, bytes, leftover, wp_high) {
         Ok(Billed::Program) => state.programs += 1,
         Ok(Billed::Erase) => state.erases += 1,
-        Ok(Billed::Write) => state.writes += 1,
+        Ok(Billed::Write) => state.register_writes += 1,
         Ok(Billed::Nothing) => {}
         Err(Ignored) => state.ignored += 1,
     }
@@ -250,7 +255,7 @@ mod tests {
                 awake: regs.awake == 1,
                 programs: meter.programs,
                 erases: meter.erases,
-                writes: meter.writes,
+                register_writes: meter.register_writes,
                 ignored: meter.ignored,
             };
             let (regs, meter) = (check::calls::regs_of(regs), check::calls::meter_of(meter));
@@ -261,11 +266,21 @@ mod tests {
             assert_eq!((number, index as u64), (expected.number, expected.index));
             assert_eq!(u32::from(state.status), expected.regs.status);
             assert_eq!(u32::from(state.awake), expected.regs.awake);
-            let counts = [state.programs, state.erases, state.writes, state.ignored];
+            let counts = [
+                state.programs,
+                state.erases,
+                state.register_writes,
+                state.ignored,
+            ];
             let meter = expected.meter;
             assert_eq!(
                 counts,
-                [meter.programs, meter.erases, meter.writes, meter.ignored]
+                [
+                    meter.programs,
+                    meter.erases,
+                    meter.register_writes,
+                    meter.ignored
+                ]
             );
             assert!(array == mirror);
         }

@@ -1,11 +1,11 @@
 //! Files that cannot be read or understood: exit status 2, the file and the
 //! line, and no file changed.
 
-use crate::common::Folder;
+use crate::common::{Folder, PRICES};
 
 #[test]
 fn missing_files_and_folders() {
-    let folder = Folder::with_chip("missing");
+    let folder = Folder::with_board("missing");
     let says = ["no.file: cannot be read: no such file or folder"];
     for call in [
         "list no.file",
@@ -14,26 +14,21 @@ fn missing_files_and_folders() {
         "job b.txt no.file no.file --back",
         "translate no.file no.file b.tape",
         "quote no.file no.file",
-        "transact no.file chip.state 06",
-        "transact chip.array no.file 06",
-        "replay no.file chip.array chip.state",
-        "new b.array b.state --image no.file",
-        "bill no.file no.file",
+        "play b no.file",
+        "flash b no.file",
+        "board add c --department d --image no.file",
+        "board import c no.file no.file --department d",
+        "month open 2026-11 --prices no.file",
+        "ledger import no.file",
     ] {
         folder.fails(call, 2, &says);
     }
     std::fs::create_dir(folder.path.join("folder")).expect("a folder");
-    folder.fails(
-        "list folder",
-        2,
-        &["folder: cannot be read: it is a folder"],
-    );
-    folder.fails(
-        "new no/b.array b.state",
-        2,
-        &["no/b.array: cannot be written: no such file"],
-    );
-    folder.fails("new b.array ..", 2, &["..: is there already"]);
+    let says = ["folder: cannot be read: it is a folder"];
+    folder.fails("list folder", 2, &says);
+    let says = ["no/b.array: cannot be written: no such file"];
+    folder.fails("board export b no/b.array", 2, &says);
+    folder.fails("board export b ..", 2, &["..: cannot be written"]);
     folder.write("latin.txt", b"# caf\xE9\n");
     folder.fails(
         "job latin.txt a b",
@@ -44,9 +39,10 @@ fn missing_files_and_folders() {
 
 #[test]
 fn states_that_cannot_be_understood() {
-    let folder = Folder::with_chip("states");
-    let good = folder.text("chip.state");
-    let cases = [
+    let folder = Folder::with_board("states");
+    folder.served("board export b b.array b.state");
+    let good = folder.text("b.state");
+    for (from, to, says) in [
         ("awake = yes\n", "", "'awake' is missing"),
         ("awake = yes", "awake = maybe", "line 4: awake is yes or no"),
         (
@@ -81,20 +77,18 @@ fn states_that_cannot_be_understood() {
             "W25Q16",
             "line 2: the chip 'W25Q16' is not known",
         ),
-    ];
-    for (from, to, says) in cases {
+    ] {
         folder.write("bad.state", good.replace(from, to));
         let says = [&format!("bad.state: {says}")[..]];
-        folder.fails("transact chip.array bad.state 06", 2, &says);
-        folder.fails("quote no no --state bad.state", 2, &says);
+        folder.fails("board import c b.array bad.state --department d", 2, &says);
     }
 }
 
 #[test]
 fn jobs_that_cannot_be_understood() {
-    let folder = Folder::new("jobs");
+    let folder = Folder::new("bad-jobs");
     folder.write("small.bin", [0; 8]);
-    let cases = [
+    for (line, says) in [
         ("paint 0", "line 2: this is no erase, lay or guard"),
         ("erase 8k 0", "line 2: an erase is 4k, 32k or 64k"),
         ("erase 4k", "line 2: an erase is 4k, 32k or 64k"),
@@ -108,9 +102,10 @@ fn jobs_that_cannot_be_understood() {
         ),
         (
             "lay 0 from small.bin at 4 for 5",
-            "line 2: small.bin has only 8 bytes",
+            "line 2: small.bin: ends before place 9",
         ),
         ("lay 0 from \"small.bin", "line 2: a quote is left open"),
+        ("lay 0 from no.bin", "line 2: no.bin: cannot be read"),
         ("guard", "line 2: this is no erase, lay or guard"),
         ("guard top", "line 2: 'top' is no setting"),
         ("guard 256", "line 2: 256 is no setting"),
@@ -118,123 +113,39 @@ fn jobs_that_cannot_be_understood() {
             "lay 0 hex 11\npayload from small.bin",
             "line 3: 'payload from FILE' comes once",
         ),
-    ];
-    for (line, says) in cases {
+    ] {
         folder.write("bad.txt", format!("# a job\n{line}\n"));
-        folder.fails(
-            "job bad.txt b.job b.payload",
-            2,
-            &[&format!("bad.txt: {says}")],
-        );
+        let says = [&format!("bad.txt: {says}")[..]];
+        folder.fails("job bad.txt b.job b.payload", 2, &says);
     }
-    folder.write("bad.txt", "lay 0 from no.bin\n");
-    folder.fails(
-        "job bad.txt b.job b.payload",
-        2,
-        &["no.bin: cannot be read"],
-    );
 }
 
 #[test]
 fn tape_texts_that_cannot_be_understood() {
-    let folder = Folder::new("tapes");
+    let folder = Folder::new("bad-tapes");
     let long = format!("send {}", "00 ".repeat(261));
-    let cases = [
+    for (line, says) in [
         ("06", "line 1: this is no send, finish or power-cycle"),
         ("finish 1", "line 1: this is no send"),
         ("send 6", "line 1: '6' is not bytes in hex"),
         ("send bits 8 06", "line 1: 8 leftover bits are over 7"),
         (long.as_str(), "line 1: 261 bytes are over 260"),
-    ];
-    for (line, says) in cases {
+    ] {
         folder.write("bad.txt", format!("{line}\n"));
         folder.fails("tape bad.txt b.tape", 2, &[&format!("bad.txt: {says}")]);
     }
 }
 
-const PRICES: &str =
-    "currency = EUR\nprogram = 0.02\nerase = 1.50\nregister-write = 0.10\nignored = 0\n";
-
-#[test]
-fn ledgers_that_cannot_be_understood() {
-    let folder = Folder::with_chip("ledgers");
-    folder.write("prices.txt", PRICES);
-    folder.write("a.tape", []);
-    folder.served("new other.array other.state");
-    let head = "department,array,state,tape\n";
-    let line = "a,chip.array,chip.state,a.tape\n";
-    let cases = [
-        (String::new(), "there is no tape in it"),
-        (head.to_string(), "there is no tape in it"),
-        (
-            line.to_string(),
-            "line 1: the first line is 'department,array,state,tape'",
-        ),
-        (
-            format!("{head}a,chip.array,chip.state\n"),
-            "line 2: 3 fields; a line has",
-        ),
-        (
-            format!("{head}a,,chip.state,a.tape\n"),
-            "line 2: the array is empty",
-        ),
-        (
-            format!("{head}\"a,chip.array,chip.state,a.tape\n"),
-            "line 2: a quote is left open",
-        ),
-        (
-            format!("{head}{line}b,./chip.array,chip.state,a.tape\n"),
-            "line 3: its array or its state is that of another chip, in a line of a",
-        ),
-        (
-            format!("{head}{line}a,chip.array,other.state,a.tape\n"),
-            "line 3: its array or its state",
-        ),
-        (
-            format!("{head}{line}a,other.array,chip.state,a.tape\n"),
-            "line 3: its array or its state",
-        ),
-    ];
-    for (ledger, says) in cases {
-        folder.write("bad.csv", ledger);
-        folder.fails("bill bad.csv prices.txt", 2, &[&format!("bad.csv: {says}")]);
-    }
-    folder.write(
-        "bad.csv",
-        format!("{head}{line}b,other.array,other.state,no.tape\n"),
-    );
-    folder.fails(
-        "bill bad.csv prices.txt --keep",
-        2,
-        &["no.tape: cannot be read"],
-    );
-    folder.write("good.csv", format!("{head}{line}"));
-    folder.fails(
-        "bill good.csv prices.txt --out no",
-        2,
-        &["no/bill.csv: cannot be written"],
-    );
-    folder.served("bill good.csv prices.txt");
-}
-
 #[test]
 fn prices_that_cannot_be_understood() {
-    let folder = Folder::with_chip("prices");
-    folder.write("a.tape", []);
-    folder.write(
-        "a.csv",
-        "department,array,state,tape\na,chip.array,chip.state,a.tape\n",
-    );
-    let cases = [
+    let folder = Folder::with_board("bad-prices");
+    for (from, to, says) in [
         ("currency = EUR\n", "", "'currency' is missing"),
+        ("currency = EUR", "currency =", "line 1: "),
         ("erase = 1.50\n", "", "'erase' is missing"),
-        ("erase = 1.50", "erase = -1", "line 3: '-1' is no price"),
-        ("erase = 1.50", "erase = 1,50", "line 3: '1,50' is no price"),
-        (
-            "erase = 1.50",
-            "erase = 0.0000001",
-            "line 3: '0.0000001' is no price",
-        ),
+        ("erase = 1.50", "erase = -1", "line 3: "),
+        ("erase = 1.50", "erase = 0.0000001", "line 3: "),
+        ("erase = 1.50", "erase = 99999999999999999999", "line 3: "),
         (
             "erase = 1.50",
             "erase = 1\nerase = 2",
@@ -248,11 +159,32 @@ fn prices_that_cannot_be_understood() {
         (
             "erase = 1.50",
             "read = 1",
-            "line 3: 'read' is none of currency, program",
+            "line 3: 'read' is none of currency",
         ),
-    ];
-    for (from, to, says) in cases {
+    ] {
         folder.write("bad.txt", PRICES.replace(from, to));
-        folder.fails("bill a.csv bad.txt", 2, &[&format!("bad.txt: {says}")]);
+        let says = [&format!("bad.txt: {says}")[..]];
+        folder.fails("month open 2026-11 --prices bad.txt", 2, &says);
     }
+}
+
+/// A byte order mark and carriage returns, in every text that is read.
+#[test]
+fn texts_of_other_systems_are_taken() {
+    let folder = Folder::with_board("dos");
+    let dos = |text: &str| format!("\u{FEFF}{}", text.replace('\n', "\r\n"));
+    folder.write("prices.txt", dos(PRICES));
+    folder.served("month open 2026-11 --prices prices.txt");
+    folder.write("a.txt", dos("erase 4k 0\nlay 0 hex \\\n 11\n"));
+    folder.served("job a.txt a.job a.payload");
+    folder.write("t.txt", dos("send 06\nfinish\n"));
+    folder.served("tape t.txt t.tape");
+    folder.served("board export b b.array b.state");
+    folder.write("b.state", dos(&folder.text("b.state")));
+    folder.served("board import c b.array b.state --department d");
+    folder.write(
+        "ledger.csv",
+        dos("department;board;tape\nlab;b;t.tape\nd;c;t.tape\n"),
+    );
+    folder.served("ledger import ledger.csv");
 }
