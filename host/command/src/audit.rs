@@ -4,10 +4,10 @@ use crate::chip::Chip;
 use crate::clock;
 use crate::error::Error;
 use crate::numbers::grouped;
-use crate::pool::boards::{self, Board};
+use crate::pool::boards;
 use crate::pool::months::{self, Month};
 use crate::pool::plays::{self, Play};
-use crate::pool::{Asked, Pool, sectors};
+use crate::pool::{Asked, Pool, sectors, whole};
 use crate::progress;
 use crate::sha256::sha256;
 use crate::told::Told;
@@ -37,6 +37,8 @@ pub struct Audit {
 #[derive(Default)]
 struct Found {
     plays: usize,
+    /// Those of them that were there when the audit began.
+    known: usize,
     records: usize,
     differs: Vec<String>,
 }
@@ -48,6 +50,15 @@ struct Desk {
     closing: Vec<u8>,
 }
 
+/// What is audited, as one look at the book has it.
+struct Task {
+    month: i64,
+    boards: Vec<(i64, String)>,
+    /// The last play by then, and how many of the month there are.
+    last: i64,
+    plays: usize,
+}
+
 impl Audit {
     /// Replays the month.
     ///
@@ -55,13 +66,18 @@ impl Audit {
     ///
     /// A month that was never opened; the pool.
     pub fn run(&self, asked: &Asked) -> Result<Told, Error> {
-        let (month, boards) = asked.open()?.read(|book| {
+        let mut book_itself = Found::default();
+        let differs = &mut book_itself.differs;
+        let task = asked.open()?.read(|book| {
+            whole::file(book, differs)?;
             let month = months::find(book, &self.month)?;
-            let boards = there(book, &month)?;
-            Ok((month, boards))
+            whole::plays(book, differs)?;
+            whole::bill(book, &self.month, differs);
+            Task::new(book, month.id)
         })?;
-        let bar = progress::bar(boards.len(), "boards");
-        let found: Result<Vec<Found>, Error> = boards
+        let bar = progress::bar(task.boards.len(), "boards");
+        let found: Result<Vec<Found>, Error> = task
+            .boards
             .par_iter()
             .map_init(
                 || Desk::new(asked),
@@ -69,12 +85,20 @@ impl Audit {
                     let desk = desk
                         .as_mut()
                         .map_err(|words| Error::wrong(words.as_str()))?;
-                    desk.board(&month, board, &bar)
+                    desk.board(&task, board, &bar)
                 },
             )
             .collect();
         bar.finish_and_clear();
-        Ok(self.told(boards.len(), &found?))
+        let mut found = found?;
+        let replayed: usize = found.iter().map(|one| one.known).sum();
+        if replayed != task.plays {
+            let (replayed, plays) = (grouped(replayed), grouped(task.plays));
+            let words = format!("{replayed} plays could be replayed, and the month has {plays}");
+            book_itself.differs.push(words);
+        }
+        found.insert(0, book_itself);
+        Ok(self.told(task.boards.len(), &found))
     }
 
     fn told(&self, boards: usize, found: &[Found]) -> Told {
@@ -108,16 +132,24 @@ impl Audit {
     }
 }
 
-/// The boards that were in the book in a month.
-fn there(book: &Connection, month: &Month) -> Result<Vec<Board>, Error> {
-    let mut rows = book.prepare("SELECT board FROM opening WHERE month = ?1")?;
-    let rows = rows.query_map([month.id], |row| row.get::<_, i64>(0))?;
-    let there: std::collections::HashSet<i64> = rows.collect::<Result<_, _>>()?;
-    let all = boards::all(book)?;
-    Ok(all
-        .into_iter()
-        .filter(|board| there.contains(&board.id))
-        .collect())
+impl Task {
+    fn new(book: &Connection, month: i64) -> Result<Task, Error> {
+        let count = "SELECT count(*) FROM play WHERE month = ?1";
+        // Also those that were played on, and yet are not there.
+        let mut rows = book.prepare(
+            "SELECT there.board, coalesce(name, 'board ' || there.board) FROM \
+             (SELECT board FROM opening WHERE month = ?1 UNION \
+             SELECT board FROM play WHERE month = ?1) AS there \
+             LEFT JOIN board ON board.id = there.board ORDER BY name",
+        )?;
+        let boards = rows.query_map([month], |row| Ok((row.get(0)?, row.get(1)?)))?;
+        Ok(Task {
+            month,
+            boards: boards.collect::<Result<_, _>>()?,
+            last: plays::next(book)? - 1,
+            plays: book.query_row(count, [month], |row| row.get(0))?,
+        })
+    }
 }
 
 impl Desk {
@@ -130,54 +162,87 @@ impl Desk {
         })
     }
 
-    fn board(&mut self, month: &Month, board: &Board, bar: &ProgressBar) -> Result<Found, Error> {
-        let (chip, closing) = (&mut self.chip, &mut self.closing);
-        // At one moment; what the book has by then does not change any more.
-        let (plays, ends) = self.pool.read(|book| {
-            let opening = boards::opening(book, month.id, board.id)?;
-            chip.become_other(opening, |array| {
-                sectors::load_opening(book, board.id, month.id, array)
-            })?;
-            let ends = closing_of(book, month, board, closing)?;
-            Ok((plays::of(book, month.id, Some(board.id))?, ends))
-        })?;
+    fn board(
+        &mut self,
+        task: &Task,
+        (id, name): &(i64, String),
+        bar: &ProgressBar,
+    ) -> Result<Found, Error> {
         let mut found = Found::default();
-        for play in &plays {
-            self.pool
-                .read(|book| replayed(book, chip, play, &board.name, &mut found))?;
-        }
-        if chip.state != ends {
-            found
-                .differs
-                .push(format!("{}: its last registers or meter", board.name));
-        }
-        if chip.array() != closing {
-            found
-                .differs
-                .push(format!("{}: its last array", board.name));
+        // A row that cannot be read is a difference; a pool that cannot, an error.
+        if let Err(error) = self.replayed(task, *id, name, &mut found)? {
+            found.differs.push(format!("{name}: {error}"));
         }
         bar.inc(1);
         Ok(found)
     }
+
+    fn replayed(
+        &mut self,
+        task: &Task,
+        id: i64,
+        name: &str,
+        found: &mut Found,
+    ) -> Result<Result<(), Error>, Error> {
+        let (chip, closing) = (&mut self.chip, &mut self.closing);
+        let begun = self.pool.read(|book| {
+            // Once more: it may have been closed since.
+            let month = months::of_row(book, task.month)?;
+            Ok(begun(book, &month, id, chip, closing))
+        })?;
+        let (plays, ends) = match begun {
+            Ok(begun) => begun,
+            Err(error) => return Ok(Err(error)),
+        };
+        for play in &plays {
+            let done = self.pool.read(|book| {
+                months::of_row(book, task.month)?;
+                Ok(replayed(book, chip, play, name, found))
+            })?;
+            if let Err(error) = done {
+                return Ok(Err(error.within(format_args!("play {}", play.number))));
+            }
+            found.known += usize::from(play.number <= task.last);
+        }
+        if chip.state != ends {
+            found
+                .differs
+                .push(format!("{name}: its last registers or meter"));
+        }
+        if chip.array() != closing {
+            found.differs.push(format!("{name}: its last array"));
+        }
+        Ok(Ok(()))
+    }
 }
 
-/// What a board was when a month ended; or what it is, while it has not.
-fn closing_of(
+/// A board as it was when a month began, its plays, and what it was at the end.
+/// All at one moment; what the book has by then does not change any more.
+fn begun(
     book: &Connection,
     month: &Month,
-    board: &Board,
-    array: &mut [u8],
-) -> Result<State, Error> {
-    match month.closed {
+    board: i64,
+    chip: &mut Chip,
+    closing: &mut [u8],
+) -> Result<(Vec<Play>, State), Error> {
+    let row = boards::of_row(book, board)?;
+    boards::known(&row)?;
+    let opening = boards::opening(book, month.id, board)?;
+    chip.become_other(opening, |array| {
+        sectors::load_opening(book, board, month.id, array)
+    })?;
+    let ends = match month.closed {
         Some(_) => {
-            sectors::load_opening(book, board.id, month.id + 1, array)?;
-            boards::opening(book, month.id + 1, board.id)
+            sectors::load_opening(book, board, month.id + 1, closing)?;
+            boards::opening(book, month.id + 1, board)?
         }
+        // What it is, while the month has not ended.
         None => {
-            sectors::load(book, board.id, array)?;
-            Ok(boards::find(book, &board.name)?.state)
+            sectors::load(book, board, closing)?;
+            row.state
         }
-    }
+    };
+    Ok((plays::of(book, month.id, Some(board))?, ends))
 }
 
 fn replayed(

@@ -7,7 +7,8 @@ use crate::clock;
 use crate::error::{Error, shown};
 use crate::numbers::grouped;
 use crate::output::Outputs;
-use crate::pool::{Asked, bills, months};
+use crate::pool::{Asked, bills, months, seals};
+use crate::sha256::hex;
 use crate::told::Told;
 use clap::{Args, Subcommand};
 use rusqlite::Connection;
@@ -116,15 +117,18 @@ fn plays(book: &Connection, month: i64) -> Result<u64, Error> {
 
 fn close(pool: &Asked, name: &str) -> Result<Told, Error> {
     let mut pool = pool.open()?;
-    let (plays, closed) = pool.write(|book, now| {
+    let (plays, closed, seal) = pool.write(|book, now| {
+        let month = months::find_open(book, name)?;
         // A month that cannot be billed is not closed.
-        let bill = bills::bill(book, name)?;
+        let mut bill = bills::drawn(book, &month)?;
         table::render(&bill, false, WIDTH).map_err(fault)?;
-        months::close(book, now, name)?;
-        Ok((plays(book, months::find(book, name)?.id)?, now.to_string()))
+        bill.closed = Some(now.to_string());
+        let seal = seals::of(book, &month, &bill)?;
+        months::close(book, now, &month, seal)?;
+        Ok((plays(book, month.id)?, now.to_string(), hex(&seal)))
     })?;
     let text = format!("{name}: closed at {closed}, {} plays\n", grouped(plays));
-    let json = json!({ "month": name, "closed": closed, "plays": plays });
+    let json = json!({ "month": name, "closed": closed, "plays": plays, "seal": seal });
     Ok(Told::new(text, json))
 }
 
@@ -149,7 +153,10 @@ fn list(pool: &Asked) -> Result<Told, Error> {
             "{name}  opened {opened}, {ends}, {} plays",
             grouped(plays)
         );
-        values.push(json!({ "month": name, "opened": opened, "closed": closed, "plays": plays }));
+        let seal = month.seal.map(|seal| hex(&seal));
+        values.push(json!({
+            "month": name, "opened": opened, "closed": closed, "plays": plays, "seal": seal,
+        }));
     }
     Ok(Told::new(text, Value::from(values)))
 }

@@ -1,6 +1,7 @@
 //! Boards in the book.
 
 use super::{months, sectors};
+use crate::chip::NAME;
 use crate::error::Error;
 use rusqlite::{Connection, OptionalExtension, Row};
 use tunebriar::{Meter, Registers, State};
@@ -93,6 +94,31 @@ pub fn all(book: &Connection) -> Result<Vec<Board>, Error> {
 pub fn named(book: &Connection, name: &str) -> Result<Option<Board>, Error> {
     let mut row = book.prepare_cached(&select("WHERE board.name = ?1"))?;
     Ok(row.query_row([name], board).optional()?)
+}
+
+/// The board of a row.
+///
+/// # Errors
+///
+/// Where there is none, or it cannot be read.
+pub fn of_row(book: &Connection, id: i64) -> Result<Board, Error> {
+    let mut row = book.prepare_cached(&select("WHERE board.id = ?1"))?;
+    Ok(row.query_row([id], board)?)
+}
+
+/// That a board's chip is one we know.
+///
+/// # Errors
+///
+/// Where it is not.
+pub fn known(board: &Board) -> Result<(), Error> {
+    match board.chip == NAME {
+        true => Ok(()),
+        false => Err(Error::wrong(format_args!(
+            "its chip '{}' is none that this command knows",
+            board.chip
+        ))),
+    }
 }
 
 /// The board with a name.

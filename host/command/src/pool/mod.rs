@@ -8,7 +8,9 @@ pub mod boards;
 pub mod months;
 pub mod plays;
 pub mod schema;
+pub mod seals;
 pub mod sectors;
+pub mod whole;
 
 use crate::error::Error;
 use crate::{clock, files};
