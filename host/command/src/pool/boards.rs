@@ -1,10 +1,10 @@
 //! Boards in the book.
 
-use super::{months, sectors};
+use super::{months, sectors, sound};
 use crate::chip::NAME;
 use crate::error::Error;
 use rusqlite::{Connection, OptionalExtension, Row};
-use tunebriar::{Meter, Registers, State};
+use tunebriar::{Meter, Registers, SIZE, State};
 
 /// A board, but for its array.
 #[derive(Clone, Debug, PartialEq, Eq)]
@@ -121,18 +121,22 @@ pub fn known(board: &Board) -> Result<(), Error> {
     }
 }
 
-/// The board with a name.
+/// The board with a name, where the library would play on it.
 ///
 /// # Errors
 ///
-/// Where there is none.
+/// Where there is none; an unknown chip; refusals 2 and 3.
 pub fn find(book: &Connection, name: &str) -> Result<Board, Error> {
     let found = named(book, name)?;
-    found.ok_or_else(|| {
+    let board = found.ok_or_else(|| {
         Error::wrong(format_args!(
             "there is no board '{name}'; 'tunebriar board list' shows those there are"
         ))
-    })
+    })?;
+    match sound::fault(book, &board, &mut vec![0xFF; SIZE])? {
+        Some(fault) => Err(fault),
+        None => Ok(board),
+    }
 }
 
 /// Brings a board into the book, with its array. It is looked at before: its

@@ -105,7 +105,7 @@ pub fn begins(book: &Connection, month: i64, board: Option<i64>) -> Result<(), E
 }
 
 /// Opens the last month under a name, with its prices. With `again`, one that
-/// is open gets new prices.
+/// is open gets new prices, and the name if it has another.
 ///
 /// # Errors
 ///
@@ -124,8 +124,11 @@ pub fn open(
             let words = format!("{name} is open already; --force gives it these prices");
             return Err(Error::denied(words));
         }
+        Some(_) if again => later(book, name)?,
         Some(open) => {
-            let words = format!("{open} is open; it has to be closed before {name} opens");
+            let words = format!(
+                "{open} is open; it has to be closed before {name} opens, or --force renames it"
+            );
             return Err(Error::denied(words));
         }
         None => later(book, name)?,
@@ -138,8 +141,8 @@ pub fn open(
 }
 
 fn later(book: &Connection, name: &str) -> Result<(), Error> {
-    let before: Option<String> =
-        book.query_row("SELECT max(name) FROM month", [], |row| row.get(0))?;
+    let query = "SELECT max(name) FROM month WHERE closed IS NOT NULL";
+    let before: Option<String> = book.query_row(query, [], |row| row.get(0))?;
     match before {
         Some(before) if before.as_str() >= name => Err(Error::denied(format_args!(
             "{before} is closed already; {name} is not later"

@@ -64,6 +64,18 @@ fn fill<P: rusqlite::Params>(
     Ok(())
 }
 
+/// Whether all that is kept of a board's array lies on the chip.
+///
+/// # Errors
+///
+/// Where the book cannot be read.
+pub fn fit(book: &Connection, board: i64) -> Result<bool, Error> {
+    let query = "SELECT count(*) FROM sector WHERE board = ?1 AND place NOT BETWEEN 0 AND ?2";
+    let mut row = book.prepare_cached(query)?;
+    let off: i64 = row.query_row((board, SIZE / SECTOR - 1), |row| row.get(0))?;
+    Ok(off == 0)
+}
+
 fn put(array: &mut [u8], place: usize, bytes: &[u8]) -> Result<(), Error> {
     let sector = array.chunks_exact_mut(SECTOR).nth(place);
     let Some(sector) = sector.filter(|_| bytes.len() <= SECTOR) else {
