@@ -281,3 +281,42 @@ fn replayed(
     }
     Ok(())
 }
+
+#[cfg(test)]
+mod tests {
+    use super::*;
+
+    /// It is audited up to its end, and no further.
+    #[test]
+    fn a_month_may_close_while_it_is_audited() {
+        let folder = std::env::temp_dir().join(format!("tunebriar-audit-{}", std::process::id()));
+        std::fs::create_dir_all(&folder).expect("a folder");
+        let (path, prices) = (folder.join("a.pool"), folder.join("prices"));
+        let text = "currency = EUR\nprogram = 1\nerase = 1\nregister-write = 1\nignored = 0\n";
+        std::fs::write(&prices, text).expect("written");
+        let call = |words: &str| {
+            let words = format!("tunebriar --pool {} {words}", path.display());
+            let words: Vec<_> = words.split(' ').map(Into::into).collect();
+            let ended = crate::call(&words);
+            assert_eq!(ended.status, 0, "{ended:?}");
+        };
+        call("pool new");
+        call("board add b --department d");
+        call(&format!("month open 2026-11 --prices {}", prices.display()));
+        call("transact b 06");
+        let asked = Asked {
+            path: path.clone(),
+            wait: 5,
+            now: None,
+        };
+        let mut pool = asked.open().expect("a pool");
+        let task = pool.read(|book| Task::new(book, 1)).expect("a task");
+        call("month close 2026-11");
+        call("transact b 04");
+        let mut desk = Desk::new(&asked).expect("a desk");
+        let found = desk.board(&task, &task.boards[0], &ProgressBar::hidden());
+        let found = found.expect("audited");
+        assert_eq!((found.known, found.differs), (1, vec![]));
+        std::fs::remove_dir_all(&folder).expect("removed");
+    }
+}
