@@ -5,9 +5,9 @@ use crate::error::{Error, shown};
 use crate::numbers::grouped;
 use crate::output::Outputs;
 use crate::pool::boards::{self, Board as Row};
-use crate::pool::{Asked, sectors};
+use crate::pool::{Asked, sectors, sound};
 use crate::told::Told;
-use crate::{areas, files, names, report, state_file, words};
+use crate::{areas, files, names, play, report, state_file, words};
 use clap::{Args, Subcommand};
 use serde_json::{Value, json};
 use std::fmt::Write;
@@ -185,14 +185,13 @@ fn added(
     (state, array): (State, &[u8]),
     from: &str,
 ) -> Result<Told, Error> {
-    let mut pool = pool.open()?;
-    let now = pool.now();
-    let boards = names.iter().map(|name| fresh(name, department, state, now));
-    let boards: Vec<Row> = boards.collect::<Result<_, _>>()?;
     let array = sectors::of(array);
-    pool.write(|book, _| {
-        let mut boards = boards.iter();
-        boards.try_for_each(|board| boards::add(book, board, &array).map(|_| ()))
+    let boards: Vec<Row> = pool.open()?.write(|book, now| {
+        let boards = names.iter().map(|name| {
+            let board = fresh(name, department, state, now)?;
+            boards::add(book, &board, &array)
+        });
+        boards.collect::<Result<_, _>>()
     })?;
     let lines = boards.iter().map(|board| {
         let (name, department) = (&board.name, &board.department);
@@ -214,7 +213,11 @@ fn json(board: &Row) -> Value {
 }
 
 fn list(pool: &Asked) -> Result<Told, Error> {
-    let all = pool.open()?.read(boards::all)?;
+    let (all, faults) = pool.open()?.read(|book| {
+        let all = boards::all(book)?;
+        let faults = sound::faults(book, &all)?;
+        Ok((all, faults))
+    })?;
     let width = |of: fn(&Row) -> &str| {
         let widths = all
             .iter()
@@ -231,7 +234,10 @@ fn list(pool: &Asked) -> Result<Told, Error> {
     }
     let boards = grouped(all.len());
     let _ = writeln!(text, "{boards} boards");
-    Ok(Told::new(text, all.iter().map(json).collect()))
+    let faults: Vec<String> = faults.iter().map(ToString::to_string).collect();
+    let mut told = Told::new(text, all.iter().map(json).collect());
+    told.refused = play::refused(&faults);
+    Ok(told)
 }
 
 fn padded(text: &str, width: usize) -> String {

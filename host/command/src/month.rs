@@ -7,7 +7,8 @@ use crate::clock;
 use crate::error::{Error, shown};
 use crate::numbers::grouped;
 use crate::output::Outputs;
-use crate::pool::{Asked, bills, months};
+use crate::pool::{Asked, bills, boards, months, seals, sound};
+use crate::sha256::hex;
 use crate::told::Told;
 use clap::{Args, Subcommand};
 use rusqlite::Connection;
@@ -25,6 +26,9 @@ pub enum Month {
         /// The month, as 2026-11
         #[arg(value_parser = clock::month)]
         month: String,
+        /// Close it although a board is broken
+        #[arg(long)]
+        force: bool,
     },
     /// A month's bill: table, CSV, chart and page
     Bill(ToBill),
@@ -49,7 +53,7 @@ pub struct Open {
     /// A text of prices
     #[arg(long, value_name = "FILE")]
     prices: PathBuf,
-    /// Give a month that is open new prices
+    /// Give a month that is open these prices, and this name
     #[arg(long)]
     force: bool,
 }
@@ -86,7 +90,7 @@ impl Month {
     pub fn run(&self, pool: &Asked, json: bool) -> Result<Told, Error> {
         match self {
             Month::Open(call) => call.run(pool),
-            Month::Close { month } => close(pool, month),
+            Month::Close { month, force } => close(pool, month, *force),
             Month::Bill(call) => call.run(pool, json),
             Month::List => list(pool),
         }
@@ -97,11 +101,18 @@ impl Open {
     fn run(&self, pool: &Asked) -> Result<Told, Error> {
         let prices = Prices::read(&self.prices)?;
         let mut pool = pool.open()?;
-        let plays = pool.write(|book, now| {
+        let (plays, was) = pool.write(|book, now| {
+            let was = months::last(book)?.name;
             months::open(book, now, &self.month, &prices, self.force)?;
-            plays(book, months::last(book)?.id)
+            Ok((plays(book, months::last(book)?.id)?, was))
         })?;
-        let text = format!("{}: open, {} plays so far\n", self.month, grouped(plays));
+        let was = was.filter(|was| *was != self.month);
+        let was = was.map_or(String::new(), |was| format!(", called {was} before"));
+        let text = format!(
+            "{}: open{was}, {} plays so far\n",
+            self.month,
+            grouped(plays)
+        );
         Ok(Told::new(
             text,
             json!({ "month": self.month, "plays": plays }),
@@ -114,18 +125,50 @@ fn plays(book: &Connection, month: i64) -> Result<u64, Error> {
     Ok(book.query_row(count, [month], |row| row.get(0))?)
 }
 
-fn close(pool: &Asked, name: &str) -> Result<Told, Error> {
+fn close(pool: &Asked, name: &str, force: bool) -> Result<Told, Error> {
     let mut pool = pool.open()?;
-    let (plays, closed) = pool.write(|book, now| {
+    let (plays, closed, seal, notes) = pool.write(|book, now| {
+        let month = months::find_open(book, name)?;
+        if !force {
+            unbroken(book, name)?;
+        }
+        let notes = sound::notes(book, &month)?;
         // A month that cannot be billed is not closed.
-        let bill = bills::bill(book, name)?;
+        let mut bill = bills::drawn(book, &month)?;
         table::render(&bill, false, WIDTH).map_err(fault)?;
-        months::close(book, now, name)?;
-        Ok((plays(book, months::find(book, name)?.id)?, now.to_string()))
+        bill.closed = Some(now.to_string());
+        let seal = seals::of(book, &month, &bill)?;
+        months::close(book, now, &month, seal)?;
+        Ok((plays(book, month.id)?, now.to_string(), hex(&seal), notes))
     })?;
     let text = format!("{name}: closed at {closed}, {} plays\n", grouped(plays));
-    let json = json!({ "month": name, "closed": closed, "plays": plays });
-    Ok(Told::new(text, json))
+    let json = json!({
+        "month": name, "closed": closed, "plays": plays, "seal": seal, "notes": notes,
+    });
+    Ok(Told::new(text + &noted(&notes), json))
+}
+
+/// That every board could have played; a department whose board could not
+/// would be billed nothing, in silence.
+fn unbroken(book: &Connection, month: &str) -> Result<(), Error> {
+    let faults = sound::faults(book, &boards::all(book)?)?;
+    match &faults[..] {
+        [] => Ok(()),
+        [first, rest @ ..] => {
+            let more = match rest.len() {
+                0 => String::new(),
+                more => format!(", and {more} more"),
+            };
+            Err(Error::denied(format_args!(
+                "{month} is not closed: {first}{more}; --force closes it all the same"
+            )))
+        }
+    }
+}
+
+/// Notes in words, a line each.
+fn noted(notes: &[String]) -> String {
+    notes.iter().map(|note| format!("note: {note}\n")).collect()
 }
 
 fn list(pool: &Asked) -> Result<Told, Error> {
@@ -149,7 +192,10 @@ fn list(pool: &Asked) -> Result<Told, Error> {
             "{name}  opened {opened}, {ends}, {} plays",
             grouped(plays)
         );
-        values.push(json!({ "month": name, "opened": opened, "closed": closed, "plays": plays }));
+        let seal = month.seal.map(|seal| hex(&seal));
+        values.push(json!({
+            "month": name, "opened": opened, "closed": closed, "plays": plays, "seal": seal,
+        }));
     }
     Ok(Told::new(text, Value::from(values)))
 }
@@ -176,8 +222,12 @@ impl ToBill {
         for (path, _) in self.forms() {
             outputs.check(path)?;
         }
-        let bill = pool.open()?.read(|book| bills::bill(book, &self.month))?;
+        let (bill, notes) = pool.open()?.read(|book| {
+            let bill = bills::bill(book, &self.month)?;
+            Ok((bill, sound::notes(book, &months::find(book, &self.month)?)?))
+        })?;
         let mut text = table::render(&bill, self.detail, width()).map_err(fault)?;
+        text.push_str(&noted(&notes));
         for (path, form) in self.forms() {
             outputs.lay(path, form(&bill, self.detail).map_err(fault)?)?;
         }
@@ -190,7 +240,10 @@ impl ToBill {
             true => bill_json::render(&bill, self.detail).map_err(fault)?,
             false => "null".to_string(),
         };
-        let value: Value = serde_json::from_str(&value).map_err(Error::wrong)?;
+        let mut value: Value = serde_json::from_str(&value).map_err(Error::wrong)?;
+        if json {
+            value["notes"] = notes.into();
+        }
         Ok(Told::new(text, value).with_data(data))
     }
 
@@ -213,5 +266,7 @@ type Form = fn(&Bill, bool) -> Result<String, Fault>;
 ///
 /// A month that was never opened; the pool.
 pub fn bill(book: &Connection, month: &str) -> Result<String, Error> {
-    table::render(&bills::bill(book, month)?, false, width()).map_err(fault)
+    let notes = sound::notes(book, &months::find(book, month)?)?;
+    let table = table::render(&bills::bill(book, month)?, false, width()).map_err(fault)?;
+    Ok(table + &noted(&notes))
 }

@@ -31,21 +31,26 @@ CREATE TABLE sector (
 ) STRICT;
 
 -- The months in their order. The last one is still to be closed; it has no name
--- and no prices before it is opened, and yet what is played belongs to it.
+-- and no prices before it is opened, and yet what is played belongs to it. A
+-- closed one has the seal of its bill: a SHA-256 over it and the seal before.
 CREATE TABLE month (
     id     INTEGER PRIMARY KEY,
     name   TEXT UNIQUE,
     opened TEXT,
     prices TEXT,
     closed TEXT,
+    seal   BLOB CHECK (length(seal) = 32),
+    CHECK ((seal IS NULL) = (closed IS NULL)),
     CHECK ((name IS NULL) = (prices IS NULL) AND (name IS NULL) = (opened IS NULL)),
     CHECK (closed IS NULL OR name IS NOT NULL)
 ) STRICT;
 
--- What a board's registers and meter were when a month began.
+-- What a board's registers and meter were when a month began, and who pays for
+-- it in that month.
 CREATE TABLE opening (
     month           INTEGER NOT NULL REFERENCES month,
     board           INTEGER NOT NULL REFERENCES board,
+    department      INTEGER NOT NULL REFERENCES department,
     status          INTEGER NOT NULL,
     awake           INTEGER NOT NULL,
     programs        INTEGER NOT NULL,

@@ -1,56 +1,101 @@
 //! A month of the book, as the bill takes it.
 
-use super::{boards, months, plays};
+use super::{boards, months, plays, seals};
 use crate::bill::{Bill, Department, Figures, Ignored, Play};
 use crate::error::{Error, told};
 use crate::sha256::hex;
 use crate::tally::Asked;
 use rusqlite::Connection;
 use std::collections::{BTreeMap, HashMap};
-use tunebriar::RECORD;
+use tunebriar::{RECORD, State};
 
 /// All that is billed in a month. Departments that have boards are on it, also
-/// where they played nothing.
+/// where they played nothing. A closed month is what it was when it closed.
 ///
 /// # Errors
 ///
-/// Where the month was never opened, or the book cannot be read.
+/// Where the month was never opened, the book cannot be read, or a closed month
+/// is not what was sealed.
 pub fn bill(book: &Connection, name: &str) -> Result<Bill, Error> {
     let month = months::find(book, name)?;
+    let bill = drawn(book, &month)?;
+    seals::hold(book, &month, &bill)?;
+    Ok(bill)
+}
+
+/// The bill as the book has it now, whatever the seal says.
+///
+/// # Errors
+///
+/// Where the book cannot be read; a play that nobody pays for.
+pub fn drawn(book: &Connection, month: &months::Month) -> Result<Bill, Error> {
     let mut departments: BTreeMap<String, Department> = BTreeMap::new();
     let mut owners = HashMap::new();
     for board in present(book, month.id)? {
-        let department = departments.entry(board.1.clone()).or_default();
-        department.name.clone_from(&board.1);
+        let department = departments.entry(board.department.clone()).or_default();
+        department.name.clone_from(&board.department);
         department.boards += 1;
-        owners.insert(board.0, (board.1, board.2));
+        owners.insert(board.id, board);
     }
     let mut ignored = ignored(book, month.id)?;
     for play in plays::of(book, month.id, None)? {
-        let Some((department, board)) = owners.get(&play.board) else {
-            continue;
+        let owned = owners.get(&play.board);
+        let owned = owned.and_then(|board| Some((board, departments.get_mut(&board.department)?)));
+        let Some((board, department)) = owned else {
+            return Err(Error::wrong(format_args!(
+                "the pool: play {}: its board is not one of the month's, so nobody pays for it",
+                play.number
+            )));
         };
         let ignored = ignored.remove(&play.number).unwrap_or_default();
-        let billed = billed(book, &play, board, ignored)?;
-        if let Some(department) = departments.get_mut(department) {
-            department.plays.push(billed);
-        }
+        let billed = billed(book, &play, &board.name, ignored)?;
+        department.plays.push(billed);
     }
     Ok(Bill {
-        month: name.to_string(),
+        month: month.name.clone().unwrap_or_default(),
         closed: month.closed.clone(),
         prices: month.prices()?,
         departments: departments.into_values().collect(),
     })
 }
 
-/// The boards that were in the book in a month: row, department and name.
-fn present(book: &Connection, month: i64) -> Result<Vec<(i64, String, String)>, Error> {
+/// A board as it came into a month.
+#[derive(Clone, Debug, PartialEq, Eq)]
+pub struct Present {
+    /// Its row.
+    pub id: i64,
+    /// The department that pays for it in that month.
+    pub department: String,
+    /// Its name.
+    pub name: String,
+    /// Its chip's name.
+    pub chip: String,
+    /// Its registers and its meter.
+    pub state: State,
+}
+
+/// The boards that were in the book in a month, by name.
+///
+/// # Errors
+///
+/// Where the book cannot be read.
+pub fn present(book: &Connection, month: i64) -> Result<Vec<Present>, Error> {
     let mut rows = book.prepare(
-        "SELECT board.id, department.name, board.name FROM opening JOIN board ON board.id = \
-         opening.board JOIN department ON department.id = board.department WHERE month = ?1",
+        "SELECT board.id, department.name, board.name, chip, opening.status, opening.awake, \
+         opening.programs, opening.erases, opening.register_writes, opening.ignored \
+         FROM opening JOIN board ON board.id = opening.board \
+         JOIN department ON department.id = opening.department WHERE month = ?1 \
+         ORDER BY board.name",
     )?;
-    let rows = rows.query_map([month], |row| Ok((row.get(0)?, row.get(1)?, row.get(2)?)))?;
+    let rows = rows.query_map([month], |row| {
+        Ok(Present {
+            id: row.get(0)?,
+            department: row.get(1)?,
+            name: row.get(2)?,
+            chip: row.get(3)?,
+            state: boards::state(row, 4)?,
+        })
+    })?;
     Ok(rows.collect::<Result<_, _>>()?)
 }
 
@@ -73,7 +118,7 @@ fn ignored(book: &Connection, month: i64) -> Result<HashMap<i64, Ignored>, Error
             Asked::Other => &mut one.others,
         };
         *asked += count;
-        if let Some(by_verdict) = one.by_verdict.get_mut(verdict - 10) {
+        if let Some(by_verdict) = one.by_verdict.get_mut(verdict.wrapping_sub(10)) {
             *by_verdict += count;
         }
     }

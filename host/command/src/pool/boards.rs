@@ -1,9 +1,10 @@
 //! Boards in the book.
 
-use super::{months, sectors};
+use super::{months, sectors, sound};
+use crate::chip::NAME;
 use crate::error::Error;
 use rusqlite::{Connection, OptionalExtension, Row};
-use tunebriar::{Meter, Registers, State};
+use tunebriar::{Meter, Registers, SIZE, State};
 
 /// A board, but for its array.
 #[derive(Clone, Debug, PartialEq, Eq)]
@@ -95,18 +96,47 @@ pub fn named(book: &Connection, name: &str) -> Result<Option<Board>, Error> {
     Ok(row.query_row([name], board).optional()?)
 }
 
-/// The board with a name.
+/// The board of a row.
 ///
 /// # Errors
 ///
-/// Where there is none.
+/// Where there is none, or it cannot be read.
+pub fn of_row(book: &Connection, id: i64) -> Result<Board, Error> {
+    let mut row = book.prepare_cached(&select("WHERE board.id = ?1"))?;
+    Ok(row.query_row([id], board)?)
+}
+
+/// That a board's chip is one we know.
+///
+/// # Errors
+///
+/// Where it is not.
+pub fn known(board: &Board) -> Result<(), Error> {
+    match board.chip == NAME {
+        true => Ok(()),
+        false => Err(Error::wrong(format_args!(
+            "its chip '{}' is none that this command knows",
+            board.chip
+        ))),
+    }
+}
+
+/// The board with a name, where the library would play on it.
+///
+/// # Errors
+///
+/// Where there is none; an unknown chip; refusals 2 and 3.
 pub fn find(book: &Connection, name: &str) -> Result<Board, Error> {
     let found = named(book, name)?;
-    found.ok_or_else(|| {
+    let board = found.ok_or_else(|| {
         Error::wrong(format_args!(
             "there is no board '{name}'; 'tunebriar board list' shows those there are"
         ))
-    })
+    })?;
+    match sound::fault(book, &board, &mut vec![0xFF; SIZE])? {
+        Some(fault) => Err(fault),
+        None => Ok(board),
+    }
 }
 
 /// Brings a board into the book, with its array's sectors. It is looked at before: its

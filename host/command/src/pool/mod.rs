@@ -8,7 +8,11 @@ pub mod boards;
 pub mod months;
 pub mod plays;
 pub mod schema;
+pub mod seals;
 pub mod sectors;
+pub mod sound;
+pub mod times;
+pub mod whole;
 
 use crate::error::Error;
 use crate::{clock, files};
@@ -34,7 +38,8 @@ pub struct Asked {
 pub struct Pool {
     path: PathBuf,
     book: Connection,
-    now: String,
+    /// The time that the call names, if it does.
+    now: Option<String>,
 }
 
 impl Asked {
@@ -110,7 +115,8 @@ impl Asked {
         let settings = "PRAGMA foreign_keys = ON; PRAGMA synchronous = EXTRA; \
                         PRAGMA cell_size_check = ON; PRAGMA trusted_schema = OFF;";
         book.execute_batch(settings).map_err(named)?;
-        let now = clock::now(&book, self.now.as_deref())?;
+        let now = self.now.clone();
+        clock::now(&book, now.as_deref())?;
         Ok(Pool { path, book, now })
     }
 }
@@ -120,12 +126,6 @@ impl Pool {
     #[must_use]
     pub fn path(&self) -> &Path {
         &self.path
-    }
-
-    /// The time of this call.
-    #[must_use]
-    pub fn now(&self) -> &str {
-        &self.now
     }
 
     /// Looks at the book as it is at one moment.
@@ -142,18 +142,22 @@ impl Pool {
     }
 
     /// Changes the book: all that `change` does is there together, or nothing.
+    /// The time that it gets is one at which no other call changes the book, so
+    /// that times have the order of changes.
     ///
     /// # Errors
     ///
     /// Those of `change`, which then has changed nothing; a book that cannot be
-    /// changed, or not in time.
+    /// changed, or not in time; a clock that is behind the book.
     pub fn write<T>(
         &mut self,
         change: impl FnOnce(&Connection, &str) -> Result<T, Error>,
     ) -> Result<T, Error> {
         let immediate = TransactionBehavior::Immediate;
         let book = self.book.transaction_with_behavior(immediate)?;
-        let done = change(&book, &self.now)?;
+        let now = clock::now(&book, self.now.as_deref())?;
+        times::in_order(&book, &now)?;
+        let done = change(&book, &now)?;
         book.commit()?;
         Ok(done)
     }

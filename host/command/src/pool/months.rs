@@ -18,6 +18,8 @@ pub struct Month {
     pub prices: Option<String>,
     /// When it was closed.
     pub closed: Option<String>,
+    /// The seal of its bill, once it is closed.
+    pub seal: Option<[u8; 32]>,
 }
 
 impl Month {
@@ -32,7 +34,7 @@ impl Month {
     }
 }
 
-const SELECT: &str = "SELECT id, name, opened, prices, closed FROM month";
+const SELECT: &str = "SELECT id, name, opened, prices, closed, seal FROM month";
 
 fn month(row: &Row) -> rusqlite::Result<Month> {
     Ok(Month {
@@ -41,6 +43,7 @@ fn month(row: &Row) -> rusqlite::Result<Month> {
         opened: row.get(2)?,
         prices: row.get(3)?,
         closed: row.get(4)?,
+        seal: row.get(5)?,
     })
 }
 
@@ -76,6 +79,16 @@ pub fn find(book: &Connection, name: &str) -> Result<Month, Error> {
     found.ok_or_else(|| Error::wrong(format_args!("the month {name} was never opened")))
 }
 
+/// The month of a row.
+///
+/// # Errors
+///
+/// Where there is none.
+pub fn of_row(book: &Connection, id: i64) -> Result<Month, Error> {
+    let mut row = book.prepare_cached(&format!("{SELECT} WHERE id = ?1"))?;
+    Ok(row.query_row([id], month)?)
+}
+
 /// Notes what the boards are at a month's beginning; or one board, where it
 /// comes later.
 ///
@@ -84,15 +97,15 @@ pub fn find(book: &Connection, name: &str) -> Result<Month, Error> {
 /// Where the book cannot be changed.
 pub fn begins(book: &Connection, month: i64, board: Option<i64>) -> Result<(), Error> {
     book.prepare_cached(
-        "INSERT INTO opening SELECT ?1, id, status, awake, programs, erases, register_writes, \
-         ignored FROM board WHERE ?2 IS NULL OR id = ?2",
+        "INSERT INTO opening SELECT ?1, id, department, status, awake, programs, erases, \
+         register_writes, ignored FROM board WHERE ?2 IS NULL OR id = ?2",
     )?
     .execute((month, board))?;
     Ok(())
 }
 
 /// Opens the last month under a name, with its prices. With `again`, one that
-/// is open gets new prices.
+/// is open gets new prices, and the name if it has another.
 ///
 /// # Errors
 ///
@@ -111,8 +124,11 @@ pub fn open(
             let words = format!("{name} is open already; --force gives it these prices");
             return Err(Error::denied(words));
         }
+        Some(_) if again => later(book, name)?,
         Some(open) => {
-            let words = format!("{open} is open; it has to be closed before {name} opens");
+            let words = format!(
+                "{open} is open; it has to be closed before {name} opens, or --force renames it"
+            );
             return Err(Error::denied(words));
         }
         None => later(book, name)?,
@@ -125,8 +141,8 @@ pub fn open(
 }
 
 fn later(book: &Connection, name: &str) -> Result<(), Error> {
-    let before: Option<String> =
-        book.query_row("SELECT max(name) FROM month", [], |row| row.get(0))?;
+    let query = "SELECT max(name) FROM month WHERE closed IS NOT NULL";
+    let before: Option<String> = book.query_row(query, [], |row| row.get(0))?;
     match before {
         Some(before) if before.as_str() >= name => Err(Error::denied(format_args!(
             "{before} is closed already; {name} is not later"
@@ -135,19 +151,28 @@ fn later(book: &Connection, name: &str) -> Result<(), Error> {
     }
 }
 
-/// Closes the month that is open, and begins the next.
+/// The month with a name, where it is open.
 ///
 /// # Errors
 ///
-/// Where the month is not open.
-pub fn close(book: &Connection, now: &str, name: &str) -> Result<(), Error> {
+/// Where it is not.
+pub fn find_open(book: &Connection, name: &str) -> Result<Month, Error> {
     let month = find(book, name)?;
-    if let Some(closed) = month.closed {
-        return Err(Error::denied(format_args!("{name} was closed at {closed}")));
+    match &month.closed {
+        Some(closed) => Err(Error::denied(format_args!("{name} was closed at {closed}"))),
+        None => Ok(month),
     }
+}
+
+/// Closes a month under the seal of its bill, and begins the next.
+///
+/// # Errors
+///
+/// Where the book cannot be changed.
+pub fn close(book: &Connection, now: &str, month: &Month, seal: [u8; 32]) -> Result<(), Error> {
     book.execute(
-        "UPDATE month SET closed = ?2 WHERE id = ?1",
-        (month.id, now),
+        "UPDATE month SET closed = ?2, seal = ?3 WHERE id = ?1",
+        (month.id, now, seal),
     )?;
     book.execute("INSERT INTO month (id) VALUES (?1)", [month.id + 1])?;
     begins(book, month.id + 1, None)

@@ -50,6 +50,18 @@ pub fn load_opening(
     Ok(())
 }
 
+/// Whether all that is kept of a board's array lies on the chip.
+///
+/// # Errors
+///
+/// Where the book cannot be read.
+pub fn fit(book: &Connection, board: i64) -> Result<bool, Error> {
+    let query = "SELECT count(*) FROM sector WHERE board = ?1 AND place NOT BETWEEN 0 AND ?2";
+    let mut row = book.prepare_cached(query)?;
+    let off: i64 = row.query_row((board, SIZE / SECTOR - 1), |row| row.get(0))?;
+    Ok(off == 0)
+}
+
 fn one(row: &Row, put: &mut impl FnMut(usize, &[u8])) -> Result<(), Error> {
     let (place, bytes) = (
         row.get::<_, usize>(0)?,

@@ -14,5 +14,6 @@ mod outputs;
 mod plays;
 mod refused;
 mod sample;
+mod sealed;
 mod tapes;
 mod usage;

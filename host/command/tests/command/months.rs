@@ -188,3 +188,77 @@ fn a_closed_month_is_audited_later() {
     }
     assert_eq!(folder.json("audit 2026-12")["boards"], 3);
 }
+
+/// A department whose board can play nothing is not billed 0 in silence.
+#[test]
+fn a_broken_board_and_a_full_meter_are_noted_on_the_bill() {
+    let folder = Folder::with_month("noted");
+    folder.board_in("full", "0", "yes", [u32::MAX, 0, 0, 0]);
+    let note = "note: board full: a count of its meter is full";
+    assert!(folder.served("month bill 2026-11").contains(note));
+    let book = folder.book();
+    book.execute("UPDATE board SET status = 65535 WHERE name = 'b'", [])
+        .expect("changed");
+    drop(book);
+    let note = "note: board b: refused 3: the registers are not well formed";
+    assert!(folder.served("month bill 2026-11").contains(note));
+    folder.fails(
+        "month close 2026-11",
+        1,
+        &["2026-11 is not closed: board b: refused 3: "],
+    );
+    assert!(folder.served("month close 2026-11 --force").contains(note));
+    assert_eq!(
+        folder.json("month bill 2026-11")["notes"]
+            .as_array()
+            .map(Vec::len),
+        Some(2)
+    );
+}
+
+#[test]
+fn an_open_month_gets_another_name_only_if_asked() {
+    let folder = Folder::with_month("renamed");
+    folder.served("month close 2026-11");
+    folder.served("month open 9999-12 --prices prices.txt");
+    folder.fails(
+        "month open 2026-12 --prices prices.txt",
+        1,
+        &["9999-12 is open", "--force renames it"],
+    );
+    folder.fails(
+        "month open 2026-11 --prices prices.txt --force",
+        1,
+        &["2026-11 is not later"],
+    );
+    assert_eq!(
+        folder.served("month open 2026-12 --prices prices.txt --force"),
+        "2026-12: open, called 9999-12 before, 0 plays so far\n"
+    );
+    folder.fails("month bill 9999-12", 2, &["9999-12 was never opened"]);
+}
+
+/// Times in the book have the order of the book.
+#[test]
+fn a_time_before_the_book_s_last_is_refused() {
+    let folder = Folder::with_month("times");
+    let at = |time: &str, call: &str| {
+        let mut command = folder.command();
+        command.args(["--now", time]).args(call.split(' '));
+        let ran: crate::common::Ran = command.output().expect("it runs").into();
+        ran
+    };
+    let early = "2026-11-16T09:59:59Z";
+    let says = "the time 2026-11-16T09:59:59Z is before the book's last, 2026-11-16T10:00:00Z";
+    for call in [
+        "transact b 06",
+        "month close 2026-11",
+        "board add c --department d",
+    ] {
+        folder.failed(call, &at(early, call), 1, &[says]);
+    }
+    assert_eq!(at(early, "board list").status, 0);
+    assert_eq!(at("2026-12-05T00:00:00Z", "transact b 06").status, 0);
+    let says = ["before the book's last, 2026-12-05T00:00:00Z"];
+    folder.fails("transact b 04", 1, &says);
+}

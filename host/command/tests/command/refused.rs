@@ -45,9 +45,19 @@ fn refusal_3_is_the_board_s() {
         .book()
         .execute("UPDATE board SET status = 1", [])
         .expect("changed");
-    let says = ["board b: a.tape was not played: refused 3: the registers are not well formed"];
-    folder.fails("play b a.tape", 1, &says);
-    folder.fails("transact b finish", 1, &["board b: refused 3: "]);
+    let says = ["board b: refused 3: the registers are not well formed"];
+    for call in [
+        "play b a.tape",
+        "flash b a.tape",
+        "board show b",
+        "board export b b.array b.state",
+        "transact b finish",
+    ] {
+        folder.fails(call, 1, &says);
+    }
+    let listed = folder.run("board list");
+    folder.failed("board list", &listed, 1, &says);
+    assert!(listed.out.contains("lab  b"), "{listed:?}");
     folder.fails(
         "quote a.job a.payload --board b",
         1,
