@@ -11,7 +11,7 @@ pub mod schema;
 pub mod sectors;
 
 use crate::error::Error;
-use crate::{clock, files};
+use crate::{clock, files, kept};
 use rusqlite::{Connection, OpenFlags, TransactionBehavior};
 use std::fs;
 use std::os::unix::fs::MetadataExt;
@@ -153,8 +153,11 @@ impl Pool {
     ) -> Result<T, Error> {
         let immediate = TransactionBehavior::Immediate;
         let book = self.book.transaction_with_behavior(immediate)?;
+        let first = plays::next(&book)?;
         let done = change(&book, &self.now)?;
+        let plays = first..plays::next(&book)?;
         book.commit()?;
+        kept::note(plays);
         Ok(done)
     }
 }
