@@ -4,7 +4,8 @@ use crate::error::Error;
 use crate::pool::Asked;
 use crate::told::Told;
 use crate::{
-    audit, board, explain, flash, job, ledger, list, month, play, quote, tape, transact, translate,
+    audit, board, books, explain, flash, job, ledger, list, month, play, quote, tape, transact,
+    translate,
 };
 use clap::{CommandFactory, Parser, Subcommand};
 use clap_complete::Shell;
@@ -123,6 +124,7 @@ impl Call {
             wait: self.wait,
             now: self.now.clone(),
         };
+        books::name(&self.pool);
         match &self.command {
             Sub::Pool(Pool::New) => new(&pool),
             Sub::Board(call) => call.run(&pool),

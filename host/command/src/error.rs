@@ -64,6 +64,12 @@ impl Error {
         Error::new(self.status, format_args!("{place}: {}", self.words))
     }
 
+    /// The same, and what has to be known besides.
+    #[must_use]
+    pub fn but(self, words: impl fmt::Display) -> Error {
+        Error::new(self.status, format_args!("{}{words}", self.words))
+    }
+
     /// The exit status.
     #[must_use]
     pub fn status(&self) -> u8 {

@@ -101,6 +101,15 @@ fn one(
     let _ = writeln!(text, "play {number}, {name} on {board} of {department}:");
     if let Some(refusal) = &refusal {
         let _ = writeln!(text, "  {refusal}; nothing was played");
+        values.push(json!({
+            "play": number,
+            "board": board,
+            "department": department,
+            "tape": name,
+            "refusal": play.refusal.map(|(number, index)| {
+                report::refusal_json(tunebriar::Refusal::new(number, index))
+            }),
+        }));
     }
     let tape = plays::tape(book, play.tape)?;
     for one in &ignored {

@@ -3,6 +3,7 @@
 //! Each file that a call reads is noted, so that none becomes its output.
 
 use crate::error::Error;
+use crate::numbers::grouped;
 use std::collections::BTreeSet;
 use std::fs::{File, Metadata};
 use std::io::{ErrorKind, Read, Seek, SeekFrom};
@@ -51,10 +52,46 @@ pub fn note(metadata: &Metadata) {
 ///
 /// Where it cannot be read, or has more.
 pub fn read(path: &Path, most: usize) -> Result<Vec<u8>, Error> {
+    if there(path)?.is_some_and(|there| there.is_file()) {
+        measured(path, most)?;
+    }
     let bytes = read_up_to(path, most)?;
     match bytes.len() > most {
-        true => Err(Error::file(path, format_args!("has over {most} bytes"))),
+        true => Err(too_long(path, most)),
         false => Ok(bytes),
+    }
+}
+
+/// That a regular file can be read and has at most so many bytes; none of them
+/// is read for that.
+///
+/// # Errors
+///
+/// Where it cannot, or has more.
+pub fn measured(path: &Path, most: usize) -> Result<(), Error> {
+    match readable(path)?.len() > most as u64 {
+        true => Err(too_long(path, most)),
+        false => Ok(()),
+    }
+}
+
+fn too_long(path: &Path, most: usize) -> Error {
+    Error::file(path, format_args!("has over {} bytes", grouped(most)))
+}
+
+/// What is under a name, without opening it: a pipe would lose what was written
+/// to it. `-` is no name.
+///
+/// # Errors
+///
+/// Where there is nothing.
+pub fn there(path: &Path) -> Result<Option<Metadata>, Error> {
+    match path == Path::new("-") {
+        true => Ok(None),
+        false => match std::fs::metadata(path) {
+            Ok(there) => Ok(Some(there)),
+            Err(error) => Err(unreadable(path, &error)),
+        },
     }
 }
 
@@ -102,11 +139,15 @@ pub fn part(path: &Path, at: u64, length: usize) -> Result<Vec<u8>, Error> {
 /// Where it cannot be read, or is not UTF-8.
 pub fn text(path: &Path) -> Result<String, Error> {
     let text = String::from_utf8(read(path, LONGEST_TEXT)?);
-    let text = text.map_err(|_| Error::file(path, "this is not a text file in UTF-8"))?;
+    let text = text.map_err(|error| {
+        let good = &error.as_bytes()[..error.utf8_error().valid_up_to()];
+        let line = 1 + good.iter().filter(|byte| **byte == b'\n').count();
+        Error::line(path, line, "this is not text in UTF-8")
+    })?;
     Ok(text.trim_start_matches('\u{FEFF}').to_string())
 }
 
-/// That a file can be read, before any work is done.
+/// That a regular file can be read, before any work is done.
 ///
 /// # Errors
 ///

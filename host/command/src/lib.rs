@@ -9,6 +9,7 @@ pub mod audit;
 pub mod bench;
 pub mod bill;
 pub mod board;
+pub mod books;
 pub mod chip;
 pub mod cli;
 pub mod clock;
@@ -21,6 +22,7 @@ pub mod flash;
 pub mod job;
 pub mod job_back;
 pub mod job_text;
+pub mod kept;
 pub mod ledger;
 pub mod lines;
 pub mod list;
@@ -35,6 +37,7 @@ pub mod progress;
 pub mod quote;
 pub mod report;
 pub mod sha256;
+pub mod source;
 pub mod state_file;
 pub mod tally;
 pub mod tape;
@@ -73,8 +76,9 @@ pub fn main(words: impl Iterator<Item = OsString>) -> ExitCode {
         && error.kind() != ErrorKind::BrokenPipe
     {
         let words = format!(
-            "standard output: cannot be written: {}",
-            files::plain(&error)
+            "standard output: cannot be written: {}{}",
+            files::plain(&error),
+            kept::told()
         );
         ended.complain(&Error::wrong(words));
     }
@@ -86,6 +90,7 @@ pub fn main(words: impl Iterator<Item = OsString>) -> ExitCode {
 #[must_use]
 pub fn call(words: &[OsString]) -> Ended {
     files::forget();
+    kept::forget();
     // A fault of ours ends the call, and the book takes back what it did.
     let told = catch_unwind(AssertUnwindSafe(|| called(words))).unwrap_or_else(|fault| {
         let words = fault
@@ -100,7 +105,7 @@ pub fn call(words: &[OsString]) -> Ended {
     let mut ended = Ended::default();
     match told {
         Ok((told, json)) => ended.tell(told, json),
-        Err(error) => ended.complain(&error),
+        Err(error) => ended.complain(&error.but(kept::told())),
     }
     ended
 }

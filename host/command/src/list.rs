@@ -45,14 +45,10 @@ impl List {
     ///
     /// Refusals 30 and 31; files; the board's refusals.
     pub fn run(&self, pool: &Asked) -> Result<Told, Error> {
-        let longest = if self.long { LONGEST_TAPE } else { LONGEST };
-        let tape = files::read_up_to(&self.tape, longest)?;
-        if self.long && tape.len() > longest {
-            return Err(Error::file(
-                &self.tape,
-                format_args!("has over {longest} bytes"),
-            ));
-        }
+        let tape = match self.long {
+            true => files::read(&self.tape, LONGEST_TAPE)?,
+            false => files::read_up_to(&self.tape, LONGEST)?,
+        };
         let verdicts = match &self.board {
             Some(board) => verdicts(pool, board, &tape)?,
             None => Verdicts::new(),
@@ -71,12 +67,14 @@ impl List {
         loop {
             let place = reader.place();
             match reader.read() {
-                Read::Record(record) if self.long => {
+                Read::Record(record) => {
                     let verdict = verdicts.get(&place).copied();
-                    text.push_str(&long(place, record, verdict));
+                    match self.long {
+                        true => text.push_str(&long(place, record, verdict)),
+                        false => line(&mut text, place, record),
+                    }
                     all.push(value(place, record, verdict));
                 }
-                Read::Record(record) => line(&mut text, place, record),
                 Read::End => return Ok(Told::new(text, Value::from(all))),
                 Read::Fault(refusal) => return Err(refusal),
             }

@@ -2,14 +2,17 @@
 //!
 //! A new file has no name until it is whole, where the file system can do that.
 //! What is there is replaced only if asked, and keeps its mode, owner and
-//! links. A pipe or device is written to. `-` is standard output.
+//! links. A pipe or device is written to. `-` is standard output, and so is a
+//! name of the file that standard output goes to.
 
+use crate::books;
 use crate::error::Error;
 use crate::files::{self, identity, plain};
 use rustix::fs::{AtFlags, OFlags, cwd, linkat};
 use std::fs::{self, File, Metadata, OpenOptions};
-use std::io::Write;
-use std::os::fd::AsRawFd;
+use std::hash::{BuildHasher, RandomState};
+use std::io::{Write, stderr, stdout};
+use std::os::fd::{AsFd, AsRawFd};
 use std::os::unix::fs::{FileTypeExt, MetadataExt, OpenOptionsExt, fchown};
 use std::path::{Path, PathBuf};
 
@@ -35,6 +38,7 @@ enum There {
     Nothing,
     File(Metadata),
     Pipe,
+    StandardError,
 }
 
 impl Outputs {
@@ -54,7 +58,7 @@ impl Outputs {
     ///
     /// Where it may not.
     pub fn check(&self, called: &Path) -> Result<(), Error> {
-        match called == Path::new("-") {
+        match is_standard_output(called) {
             true => Ok(()),
             false => self.place(called).map(|_| ()),
         }
@@ -66,7 +70,7 @@ impl Outputs {
     ///
     /// Where they may not.
     pub fn lay(&mut self, called: &Path, bytes: impl Into<Vec<u8>>) -> Result<(), Error> {
-        if called == Path::new("-") {
+        if is_standard_output(called) {
             return match self.data.replace(bytes.into()) {
                 None => Ok(()),
                 Some(_) => Err(Error::wrong("two outputs cannot both be standard output")),
@@ -87,6 +91,9 @@ impl Outputs {
 
     fn place(&self, called: &Path) -> Result<(PathBuf, There), Error> {
         let deny = |words: &str| Err(Error::file(called, words));
+        if let Some(words) = books::denied(called) {
+            return deny(words);
+        }
         let Ok(metadata) = fs::metadata(called) else {
             return match called.is_symlink() {
                 true => deny("cannot be written: it is a link to nothing"),
@@ -99,6 +106,9 @@ impl Outputs {
         }
         if !kind.is_file() {
             return deny("cannot be written: it is no file");
+        }
+        if is_open_as(&metadata, stderr()) {
+            return Ok((called.to_path_buf(), There::StandardError));
         }
         if files::was_read(identity(&metadata)) {
             return deny("is read by this call, and cannot be its output");
@@ -129,6 +139,20 @@ impl Outputs {
         }
         Ok(self.data)
     }
+}
+
+/// Whether this is standard output, or a name of the file that it goes to: that
+/// one is written on, and not replaced.
+fn is_standard_output(called: &Path) -> bool {
+    let there = || fs::metadata(called).is_ok_and(|there| is_open_as(&there, stdout()));
+    called == Path::new("-") || there()
+}
+
+/// Whether a regular file is the one that a stream of ours goes to.
+fn is_open_as(file: &Metadata, stream: impl AsFd) -> bool {
+    let open = stream.as_fd().try_clone_to_owned().map(File::from);
+    let open = open.and_then(|open| open.metadata());
+    file.is_file() && open.is_ok_and(|open| identity(&open) == identity(file))
 }
 
 /// A new file by its folder's one name and its own.
@@ -168,7 +192,7 @@ enum Fresh {
 impl Fresh {
     fn of(output: &Output) -> Result<Fresh, Error> {
         let made = match &output.there {
-            There::Pipe => Ok(Fresh::Over),
+            There::Pipe | There::StandardError => Ok(Fresh::Over),
             There::File(old) if old.nlink() > 1 => Ok(Fresh::Over),
             _ => Fresh::written(output),
         };
@@ -182,7 +206,7 @@ impl Fresh {
             .custom_flags(OFlags::TMPFILE.bits() as i32);
         let fresh = match options.open(folder(&output.path)) {
             Ok(unnamed) => Fresh::Unnamed(unnamed),
-            Err(_) => Fresh::Hidden(Hidden::new(&hidden(&output.path))?),
+            Err(_) => Fresh::Hidden(Hidden::new(&output.path)?),
         };
         let mut file = fresh.file();
         file.write_all(&output.bytes)?;
@@ -211,7 +235,7 @@ impl Fresh {
         let fresh = match (self, &output.there) {
             (Fresh::Over, _) => return over(output),
             (Fresh::Unnamed(file), There::Nothing) => return name(&file, &output.path),
-            (Fresh::Unnamed(file), _) => Hidden::named(file, &hidden(&output.path))?,
+            (Fresh::Unnamed(file), _) => Hidden::named(file, &output.path)?,
             (Fresh::Hidden(hidden), _) => hidden,
         };
         match output.there {
@@ -235,6 +259,9 @@ fn name(file: &File, path: &Path) -> std::io::Result<()> {
 
 /// Writes over what is there, in its place.
 fn over(output: &Output) -> std::io::Result<()> {
+    if let There::StandardError = output.there {
+        return stderr().write_all(&output.bytes);
+    }
     let mut file = OpenOptions::new().write(true).open(&output.path)?;
     file.write_all(&output.bytes)?;
     if let There::File(_) = output.there {
@@ -244,8 +271,8 @@ fn over(output: &Output) -> std::io::Result<()> {
     Ok(())
 }
 
-/// A file under a hidden name of its own beside an output. The name is always
-/// the same, so that what a killed call has left is taken over by the next.
+/// A file under a hidden name beside an output. The name is one that nobody can
+/// foresee and nothing has: what lies there is neither followed nor emptied.
 struct Hidden {
     path: PathBuf,
     file: File,
@@ -253,40 +280,34 @@ struct Hidden {
 
 fn hidden(path: &Path) -> PathBuf {
     let name = path.file_name().unwrap_or_default().to_string_lossy();
-    path.with_file_name(format!(".{name}.tunebriar"))
+    let random = RandomState::new().hash_one(path);
+    path.with_file_name(format!(".{name:.50}.{random:016x}.tunebriar"))
 }
 
 impl Hidden {
-    fn new(path: &Path) -> std::io::Result<Hidden> {
+    fn new(beside: &Path) -> std::io::Result<Hidden> {
+        let path = hidden(beside);
         let mut options = OpenOptions::new();
         let file = options
             .write(true)
-            .create(true)
-            .truncate(false)
-            .open(path)?;
-        let busy = || std::io::Error::other("another call is writing it");
-        file.try_lock().map_err(|_| busy())?;
-        // Whoever had it before may have moved it away in the meantime.
-        if identity(&file.metadata()?) != identity(&fs::metadata(path)?) {
-            return Err(busy());
-        }
-        file.set_len(0)?;
-        let path = path.to_path_buf();
+            .create_new(true)
+            .custom_flags(OFlags::NOFOLLOW.bits() as i32)
+            .open(&path)?;
         Ok(Hidden { path, file })
     }
 
-    /// A whole file without a name becomes one with this hidden name.
-    fn named(file: File, path: &Path) -> std::io::Result<Hidden> {
-        drop(Hidden::new(path)?);
-        name(&file, path)?;
-        let path = path.to_path_buf();
+    /// A whole file without a name becomes one with a hidden name.
+    fn named(file: File, beside: &Path) -> std::io::Result<Hidden> {
+        let path = hidden(beside);
+        name(&file, &path)?;
         Ok(Hidden { path, file })
     }
 }
 
 impl Drop for Hidden {
     fn drop(&mut self) {
-        let ours = fs::metadata(&self.path).and_then(|there| Ok((there, self.file.metadata()?)));
+        let there = fs::symlink_metadata(&self.path);
+        let ours = there.and_then(|there| Ok((there, self.file.metadata()?)));
         if ours.is_ok_and(|(there, ours)| identity(&there) == identity(&ours)) {
             let _ = fs::remove_file(&self.path);
         }

@@ -1,17 +1,18 @@
 //! `tunebriar play`: tapes on a board.
 
 use crate::bench::Bench;
-use crate::error::{Error, plain, told};
+use crate::error::{Error, shown, told};
 use crate::numbers::grouped;
 use crate::pool::plays::{Came, LONGEST_TAPE};
 use crate::pool::{Asked, boards};
+use crate::source::Source;
 use crate::told::Told;
-use crate::{files, report, words};
+use crate::{report, words};
 use clap::Args;
 use rusqlite::Connection;
 use serde_json::{Value, json};
 use std::fmt::Write;
-use std::path::{Path, PathBuf};
+use std::path::PathBuf;
 use tunebriar::{RECORD, State};
 
 /// How it is called.
@@ -53,23 +54,28 @@ impl Play {
     ///
     /// A board that cannot be played on; with `--strict` a refused tape; files.
     pub fn run(&self, pool: &Asked) -> Result<Told, Error> {
-        for tape in self.tapes.iter().filter(|tape| tape.as_os_str() != "-") {
-            files::readable(tape)?;
-        }
+        let tapes = self.tapes.iter();
+        let tapes = tapes.map(|tape| Source::look(tape, LONGEST_TAPE));
+        let tapes: Vec<Source> = tapes.collect::<Result<_, _>>()?;
         let mut pool = pool.open()?;
         let (played, state) = match self.dry_run {
-            true => pool.read(|book| self.played(book, ""))?,
-            false => pool.write(|book, now| self.played(book, now))?,
+            true => pool.read(|book| self.played(book, "", &tapes))?,
+            false => pool.write(|book, now| self.played(book, now, &tapes))?,
         };
         Ok(self.told(played, state))
     }
 
-    fn played(&self, book: &Connection, now: &str) -> Result<(Played, State), Error> {
+    fn played(
+        &self,
+        book: &Connection,
+        now: &str,
+        tapes: &[Source],
+    ) -> Result<(Played, State), Error> {
         let mut bench = Bench::new(book, now)?;
         bench.take(boards::find(book, &self.board)?)?;
         let mut played = Played::default();
-        for path in &self.tapes {
-            self.one(&mut bench, path, &mut played)?;
+        for tape in tapes {
+            self.one(&mut bench, tape, &mut played)?;
         }
         if !self.dry_run {
             bench.keep()?;
@@ -77,9 +83,9 @@ impl Play {
         Ok((played, bench.chip().state))
     }
 
-    fn one(&self, bench: &mut Bench, path: &Path, played: &mut Played) -> Result<(), Error> {
-        let tape = files::read(path, LONGEST_TAPE)?;
-        let name = plain(&path.to_string_lossy());
+    fn one(&self, bench: &mut Bench, tape: &Source, played: &mut Played) -> Result<(), Error> {
+        let name = shown(tape.path());
+        let tape = tape.bytes()?;
         let (number, came) = match self.dry_run {
             true => {
                 let first = self.first.unwrap_or(u64::MAX);

@@ -146,14 +146,26 @@ fn figures(bill: &Bill, line: &Line, decimals: u32) -> Vec<String> {
 /// formula, blanks aside, or with the mark itself, gets a `'` in front, which a
 /// spreadsheet takes for "this is text". To have the name again, take off one
 /// leading `'`.
-fn tame(text: &str) -> String {
+#[must_use]
+pub fn tame(text: &str) -> String {
     let text = plain(text);
-    let begins = ['=', '+', '-', '@', '＝', '＋', '－', '＠', '\''];
-    match text.trim_start().starts_with(begins) {
+    match text.trim_start().starts_with(BEGINS) {
         true => format!("'{text}"),
         false => text,
     }
 }
+
+/// The name that was tamed: without the mark, where it is one.
+#[must_use]
+pub fn untamed(text: &str) -> &str {
+    match text.strip_prefix('\'') {
+        Some(name) if name.trim_start().starts_with(BEGINS) => name,
+        _ => text,
+    }
+}
+
+/// How what a spreadsheet takes for a formula begins, and the mark.
+const BEGINS: [char; 9] = ['=', '+', '-', '@', '＝', '＋', '－', '＠', '\''];
 
 /// A line, with quotes where they must be.
 fn written(row: &[String]) -> String {

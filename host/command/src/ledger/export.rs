@@ -1,5 +1,6 @@
 //! A month's plays as a ledger, which plays them again where its boards are.
 
+use crate::bill::csv::tame;
 use crate::clock;
 use crate::error::{Error, shown};
 use crate::numbers::grouped;
@@ -62,14 +63,13 @@ impl Export {
                 Some(folder) => self.tape(book, folder, play.number, &play.sha256)?,
                 None => play.tape.clone(),
             };
-            let number = play.number.to_string();
             let fields = [
-                department,
-                &play.board,
-                &tape,
-                &play.sha256,
-                &number,
-                &play.when,
+                tame(department),
+                tame(&play.board),
+                tame(&tape),
+                play.sha256.clone(),
+                play.number.to_string(),
+                play.when.clone(),
             ];
             writer.write_record(fields).map_err(Error::wrong)?;
         }

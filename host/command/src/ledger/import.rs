@@ -2,21 +2,22 @@
 
 use super::rows::{self, Board, Row, Rows};
 use crate::bench::Bench;
+use crate::bill::json;
 use crate::bill::prices::Prices;
 use crate::board::{checked, fresh};
 use crate::error::{Error, told};
 use crate::numbers::grouped;
 use crate::play::refused;
 use crate::pool::boards::{self, Board as Kept};
-use crate::pool::plays::LONGEST_TAPE;
-use crate::pool::{Asked, months, sectors};
+use crate::pool::{Asked, bills, months, plays, sectors};
 use crate::sha256::{hex, sha256};
 use crate::told::Told;
 use crate::{clock, files, month, progress, state_file};
 use clap::Args;
 use indicatif::ProgressBar;
 use rusqlite::Connection;
-use serde_json::json;
+use serde_json::{Value, json};
+use std::borrow::Cow;
 use std::path::{Path, PathBuf};
 use tunebriar::SIZE;
 
@@ -28,7 +29,8 @@ LEDGER is CSV, with commas, semicolons or tabs, and a header:
   department,array,state,tape    on chips in files, each a new board; the files
                                  stay as they are
 A column sha256 is held against the tapes. Names are looked for in LEDGER's own
-folder. A board's tapes are played in their order. Every line is looked at first;
+folder. A board's tapes are played in their order. A tape that its board has
+played this month already, whatever its name, needs --repeats. Every line is looked at first;
 a line that is wrong is named, and nothing is played. A tape that is refused is
 kept with its refusal and bills nothing; the exit status is then 1.
 
@@ -43,7 +45,7 @@ pub struct Import {
     /// The month's prices
     #[arg(long, value_name = "FILE", requires = "month")]
     prices: Option<PathBuf>,
-    /// Play a row that comes twice twice
+    /// Play a tape again that its board has played this month, here or before
     #[arg(long)]
     repeats: bool,
     /// Keep nothing, and exit 1, if some tape is refused
@@ -57,6 +59,7 @@ struct Done {
     added: usize,
     refused: Vec<String>,
     bill: String,
+    bill_json: Value,
 }
 
 impl Import {
@@ -78,6 +81,7 @@ impl Import {
             self.play(book, now, &rows, &mut done, &bar)?;
             if let Some(month) = &self.month {
                 done.bill = month::bill(book, month)?;
+                done.bill_json = bill_json(book, month)?;
             }
             Ok(done)
         });
@@ -94,6 +98,7 @@ impl Import {
         bar: &ProgressBar,
     ) -> Result<(), Error> {
         let mut bench = Bench::new(book, now)?;
+        let month = months::last(book)?.id;
         let first = bench.next();
         let mut of_board: Vec<Vec<usize>> = vec![Vec::new(); rows.boards.len()];
         for (place, row) in rows.rows.iter().enumerate() {
@@ -101,9 +106,19 @@ impl Import {
         }
         for (board, places) in rows.boards.iter().zip(of_board) {
             let kept = self.board(book, now, board, done)?;
+            let mut before = plays::tapes(book, month, kept.id)?;
             bench.take(kept)?;
             for place in places {
-                self.row(&mut bench, first + place as i64, &rows.rows[place], done)?;
+                let (number, row) = (first + place as i64, &rows.rows[place]);
+                let here = |error: Error| self.at(row.line, error);
+                let tape = self.tape(row).map_err(here)?;
+                let digest = sha256(&tape);
+                let exported = exported(book, row, first, digest)?;
+                let known = exported.or(before.insert(digest, number));
+                if let (false, Some(known)) = (self.repeats, known) {
+                    return Err(here(again(known, first, rows)));
+                }
+                self.row(&mut bench, number, row, &tape, done)?;
                 bar.inc(1);
             }
             bench.keep()?;
@@ -140,16 +155,28 @@ impl Import {
         boards::add(book, &fresh, &sectors::of(&bytes)).map_err(here)
     }
 
-    fn row(&self, bench: &mut Bench, number: i64, row: &Row, done: &mut Done) -> Result<(), Error> {
-        let here = |error: Error| self.at(row.line, error);
-        let tape = files::read(&row.tape, LONGEST_TAPE).map_err(here)?;
-        if let Some(digest) = &row.sha256
-            && !digest.eq_ignore_ascii_case(&hex(&sha256(&tape)))
-        {
-            let words = "its bytes are not those of the ledger's sha256";
-            return Err(here(Error::file(&row.tape, words)));
+    /// A row's tape, which is the one that the ledger means.
+    fn tape<'a>(&self, row: &'a Row) -> Result<Cow<'a, [u8]>, Error> {
+        let tape = row.tape.bytes()?;
+        match &row.sha256 {
+            Some(digest) if !digest.eq_ignore_ascii_case(&hex(&sha256(&tape))) => Err(Error::file(
+                row.tape.path(),
+                "its bytes are not those of the ledger's sha256",
+            )),
+            _ => Ok(tape),
         }
-        if let Err(refusal) = bench.play_as(number, &row.name, &tape).map_err(here)? {
+    }
+
+    fn row(
+        &self,
+        bench: &mut Bench,
+        number: i64,
+        row: &Row,
+        tape: &[u8],
+        done: &mut Done,
+    ) -> Result<(), Error> {
+        let here = |error: Error| self.at(row.line, error);
+        if let Err(refusal) = bench.play_as(number, &row.name, tape).map_err(here)? {
             let words = format!("line {}: {}: {}", row.line, row.name, told(refusal));
             if self.strict {
                 return Err(Error::denied(words).within(self.ledger.display()));
@@ -176,12 +203,44 @@ impl Import {
         );
         let json = json!({
             "played": all - turned, "refused": done.refused, "boards": rows.boards.len(),
-            "added": done.added,
+            "added": done.added, "bill": done.bill_json,
         });
         let mut told = Told::new(text, json);
         told.refused = refused(&done.refused).map(|error| error.within(ledger));
         told
     }
+}
+
+/// A tape that its board has played already, by this ledger or before it.
+fn again(known: i64, first: i64, rows: &Rows) -> Error {
+    let of_ledger = usize::try_from(known - first).ok();
+    let of_ledger = of_ledger.and_then(|place| rows.rows.get(place));
+    Error::wrong(match of_ledger {
+        Some(row) => format!(
+            "the same bytes as line {}; --repeats plays them again",
+            row.line
+        ),
+        None => format!("this is play {known} of the pool; --repeats plays it again"),
+    })
+}
+
+/// The play of this very pool that an exported ledger's row is.
+fn exported(
+    book: &Connection,
+    row: &Row,
+    first: i64,
+    tape: plays::Digest,
+) -> Result<Option<i64>, Error> {
+    match row.number.filter(|number| *number < first) {
+        Some(number) if plays::is_of(book, number, tape)? => Ok(Some(number)),
+        _ => Ok(None),
+    }
+}
+
+/// A month's bill for programs.
+fn bill_json(book: &Connection, month: &str) -> Result<Value, Error> {
+    let bill = json::render(&bills::bill(book, month)?, false).map_err(Error::wrong)?;
+    serde_json::from_str(&bill).map_err(Error::wrong)
 }
 
 fn shown(path: &Path) -> String {

@@ -1,8 +1,11 @@
 //! The rows of a ledger, each looked at before anything is played.
 
+use crate::bill::csv::untamed;
 use crate::error::{Error, plain};
 use crate::files::{self, Identity, identity};
 use crate::names;
+use crate::pool::plays::LONGEST_TAPE;
+use crate::source::Source;
 use csv::{ReaderBuilder, StringRecord};
 use std::collections::HashMap;
 use std::path::{Path, PathBuf};
@@ -17,11 +20,13 @@ pub struct Row {
     /// The board, by its place among those of the ledger.
     pub board: usize,
     /// The tape's file.
-    pub tape: PathBuf,
+    pub tape: Source,
     /// The tape as the ledger has it.
     pub name: String,
     /// What its bytes' SHA-256 must be, where the ledger says so.
     pub sha256: Option<String>,
+    /// Its number in the book that the ledger was exported from.
+    pub number: Option<i64>,
 }
 
 /// A board of a ledger.
@@ -72,7 +77,7 @@ struct Reading<'a> {
     columns: HashMap<&'static str, usize>,
     keys: HashMap<Key, usize>,
     owners: HashMap<Identity, u64>,
-    seen: HashMap<(usize, PathBuf), u64>,
+    seen: HashMap<(usize, Identity), u64>,
     taken: Rows,
 }
 
@@ -113,7 +118,7 @@ pub fn read(path: &Path, repeats: bool) -> Result<Rows, Error> {
             let line = error.position().map_or(1, csv::Position::line);
             at(line, "this is no CSV in UTF-8".to_string())
         })?;
-        let line = record.position().map_or(1, csv::Position::line);
+        let line = record.position().map_or(1, |place| line(rest, place));
         match reading.columns.is_empty() {
             true => reading.header(&record).map_err(|words| at(line, words))?,
             false => reading.row(skipped + line, &record)?,
@@ -136,6 +141,14 @@ fn header(text: &str) -> Option<(u64, &str, &str)> {
         rest = rest.split_once('\n').map_or("", |(_, rest)| rest);
     }
     None
+}
+
+/// The line of a record, which may begin after blank lines.
+fn line(text: &str, place: &csv::Position) -> u64 {
+    let rest = text.as_bytes().get(place.byte() as usize..);
+    let blank = rest.unwrap_or_default().iter();
+    let blank = blank.take_while(|byte| matches!(byte, b'\r' | b'\n'));
+    place.line() + blank.filter(|byte| **byte == b'\n').count() as u64
 }
 
 impl Reading<'_> {
@@ -172,16 +185,19 @@ impl Reading<'_> {
         }
         let field = |name: &str| match self.columns.get(name).map(|&place| &record[place]) {
             Some("") => Err(wrong(format!("the {name} is empty"))),
-            found => Ok(found.unwrap_or_default().to_string()),
+            found => Ok(untamed(found.unwrap_or_default()).to_string()),
         };
         let department = names::name(&field("department")?).map_err(wrong)?;
         let chip = [field("board")?, field("array")?, field("state")?];
         let (tape, sha256) = (field("tape")?, field("sha256")?);
         let sha256 = (!sha256.is_empty()).then_some(sha256);
+        let number = field("number").unwrap_or_default().parse().ok();
         let board = self.board(line, &department, chip)?;
         let file = self.beside(&tape);
-        self.readable(line, &file)?;
-        let before = self.seen.insert((board, file.clone()), line);
+        let file = Source::look(&file, LONGEST_TAPE).map_err(|error| self.at(line, error))?;
+        let before = file
+            .identity
+            .and_then(|file| self.seen.insert((board, file), line));
         if let (false, Some(before)) = (self.repeats, before) {
             let words = format!("the same as line {before}; --repeats plays it again");
             return Err(wrong(words));
@@ -193,6 +209,7 @@ impl Reading<'_> {
             tape: file,
             name: plain(&tape),
             sha256,
+            number,
         });
         Ok(())
     }
@@ -252,10 +269,21 @@ impl Reading<'_> {
         Ok(key)
     }
 
+    /// The identity of a chip's file, which is a regular one.
     fn readable(&self, line: u64, file: &Path) -> Result<Identity, Error> {
-        let metadata = files::readable(file)
-            .map_err(|error| error.within(format_args!("{}: line {line}", self.path.display())))?;
+        let regular = || match files::there(file)?.filter(|there| !there.is_dir()) {
+            Some(there) if !there.is_file() => Err(Error::file(
+                file,
+                "cannot be read: a ledger's chip is in regular files",
+            )),
+            _ => files::readable(file),
+        };
+        let metadata = regular().map_err(|error| self.at(line, error))?;
         Ok(identity(&metadata))
+    }
+
+    fn at(&self, line: u64, error: Error) -> Error {
+        error.within(format_args!("{}: line {line}", self.path.display()))
     }
 
     fn beside(&self, name: &str) -> PathBuf {

@@ -15,7 +15,7 @@ pub mod times;
 pub mod whole;
 
 use crate::error::Error;
-use crate::{clock, files};
+use crate::{clock, files, kept};
 use rusqlite::{Connection, OpenFlags, TransactionBehavior};
 use std::fs;
 use std::os::unix::fs::MetadataExt;
@@ -157,8 +157,11 @@ impl Pool {
         let book = self.book.transaction_with_behavior(immediate)?;
         let now = clock::now(&book, self.now.as_deref())?;
         times::in_order(&book, &now)?;
+        let first = plays::next(&book)?;
         let done = change(&book, &now)?;
+        let plays = first..plays::next(&book)?;
         book.commit()?;
+        kept::note(plays);
         Ok(done)
     }
 }

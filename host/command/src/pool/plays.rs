@@ -5,10 +5,14 @@ use crate::error::Error;
 use crate::sha256::sha256;
 use crate::tally::{Ignored, Outcome};
 use rusqlite::{Connection, OptionalExtension, Row, params};
+use std::collections::HashMap;
 use tunebriar::{Meter, Refusal};
 
 /// The most bytes of a tape in a book: whole records that SQLite still holds.
 pub const LONGEST_TAPE: usize = 3_700_000 * tunebriar::RECORD;
+
+/// A tape's SHA-256.
+pub type Digest = [u8; 32];
 
 /// What a play came to.
 pub type Came = Result<Outcome, Refusal>;
@@ -157,6 +161,31 @@ pub fn find(book: &Connection, number: i64) -> Result<Play, Error> {
     let mut row = book.prepare_cached(&format!("{SELECT} WHERE id = ?1"))?;
     let found = row.query_row([number], play).optional()?;
     found.ok_or_else(|| Error::wrong(format_args!("there is no play {number}")))
+}
+
+/// The tapes that a board has played in a month, by their SHA-256, each with the
+/// first play of it.
+///
+/// # Errors
+///
+/// Where the book cannot be read.
+pub fn tapes(book: &Connection, month: i64, board: i64) -> Result<HashMap<Digest, i64>, Error> {
+    let query = "SELECT sha256, min(play.id) FROM play JOIN tape ON tape.id = play.tape \
+                 WHERE month = ?1 AND board = ?2 GROUP BY sha256";
+    let mut rows = book.prepare_cached(query)?;
+    let rows = rows.query_map((month, board), |row| Ok((row.get(0)?, row.get(1)?)))?;
+    Ok(rows.collect::<Result<_, _>>()?)
+}
+
+/// Whether the play with a number, if there is one, is of this tape.
+///
+/// # Errors
+///
+/// Where the book cannot be read.
+pub fn is_of(book: &Connection, number: i64, tape: Digest) -> Result<bool, Error> {
+    let query = "SELECT 1 FROM play JOIN tape ON tape.id = play.tape \
+                 WHERE play.id = ?1 AND sha256 = ?2";
+    Ok(book.prepare_cached(query)?.exists((number, tape))?)
 }
 
 /// What was ignored of a play, in the order of its records.

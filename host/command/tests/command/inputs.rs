@@ -33,7 +33,7 @@ fn missing_files_and_folders() {
     folder.fails(
         "job latin.txt a b",
         2,
-        &["latin.txt: this is not a text file"],
+        &["latin.txt: line 1: this is not text in UTF-8"],
     );
 }
 
@@ -187,4 +187,60 @@ fn texts_of_other_systems_are_taken() {
         dos("department;board;tape\nlab;b;t.tape\nd;c;t.tape\n"),
     );
     folder.served("ledger import ledger.csv");
+}
+
+/// What can be read only once is read before the book is held, so that nobody
+/// waits for it, and a pipe is opened once.
+#[test]
+fn nobody_waits_for_a_pipe() {
+    let folder = Folder::with_board("pipes");
+    folder.served("board add c --department lab");
+    folder.write("t.txt", "finish\n");
+    folder.served("tape t.txt t.tape");
+    for dry in ["", "--dry-run"] {
+        let ran = folder.shell(&format!(
+            "mkfifo p; (sleep 8 >p) & tunebriar play b - {dry} <p >/dev/null & sleep 2; \
+             tunebriar --wait 1 transact c 06 >/dev/null; echo $?; rm p; kill %1 %2 2>/dev/null; :"
+        ));
+        assert_eq!((ran.out.as_str(), ran.err.as_str()), ("0\n", ""), "{dry}");
+    }
+    let ran = folder.shell("mkfifo f; cat t.tape >f & tunebriar play b f");
+    assert!(ran.out.starts_with("f: 1 of 1 records played"), "{ran:?}");
+    folder.write("l.csv", "department,board,tape\nlab,c,f\n");
+    let ran = folder.shell("cat t.tape >f & tunebriar ledger import l.csv");
+    assert!(ran.out.starts_with("l.csv: 1 tapes played"), "{ran:?}");
+    folder.write("l.csv", "department,array,state,tape\nlab,f,f,t.tape\n");
+    let says = ["l.csv: line 2: f: cannot be read: a ledger's chip is in"];
+    folder.fails("ledger import l.csv", 2, &says);
+}
+
+/// A file that is too long is refused by its length; here, the disk has none of
+/// its bytes.
+#[test]
+fn a_file_that_is_too_long_is_not_read() {
+    let folder = Folder::with_board("too-long");
+    let file = std::fs::File::create(folder.path.join("big")).expect("a file");
+    file.set_len(1 << 40).expect("a length, if no bytes");
+    for call in ["play b big", "list --long big", "tape --back x big"] {
+        let ran = folder.run(call);
+        folder.failed(call, &ran, 2, &["big: has over 976,800,000 bytes"]);
+    }
+    let ran = folder.run("job big a.job a.payload");
+    folder.failed("job", &ran, 2, &["big: has over 67,108,864 bytes"]);
+}
+
+/// What the text says is in the JSON too.
+#[test]
+fn listings_and_refusals_for_programs() {
+    let folder = Folder::with_board("for-programs");
+    folder.write("t.txt", "send 06\nfinish\n");
+    folder.served("tape t.txt t.tape");
+    let listed = folder.json("list t.tape");
+    assert_eq!(listed[0]["command"], 6);
+    assert_eq!(listed[1]["kind"], "finish");
+    folder.write("torn.tape", [0]);
+    assert_eq!(folder.run("play b torn.tape").status, 1);
+    let refused = folder.json("explain --play 1");
+    assert_eq!(refused[0]["tape"], "torn.tape");
+    assert_eq!(refused[0]["refusal"]["number"], 30);
 }

@@ -257,3 +257,78 @@ fn a_broken_chip_is_told_and_nothing_is_kept() {
         std::fs::remove_file(folder.path.join("tunebriar.pool")).expect("removed");
     }
 }
+
+/// A tape is known by its bytes, however it is called and whenever it came.
+#[test]
+fn a_tape_is_not_played_twice_unasked() {
+    let folder = Folder::with_month("twice");
+    folder.write("p.tape", program(0, 0x11));
+    folder.write("copy.tape", program(0, 0x11));
+    std::os::unix::fs::symlink("p.tape", folder.path.join("link.tape")).expect("a link");
+    let head = "department,board,tape\nlab,b,p.tape\n";
+    for (tape, says) in [
+        ("./p.tape", "l.csv: line 3: the same as line 2; --repeats"),
+        ("link.tape", "l.csv: line 3: the same as line 2; --repeats"),
+        (
+            "copy.tape",
+            "l.csv: line 3: the same bytes as line 2; --repeats",
+        ),
+    ] {
+        folder.write("l.csv", format!("{head}lab,b,{tape}\n"));
+        folder.fails("ledger import l.csv", 2, &[says]);
+    }
+    folder.write("l.csv", head);
+    folder.served("ledger import l.csv");
+    let says = ["l.csv: line 2: this is play 1 of the pool; --repeats"];
+    folder.fails("ledger import l.csv", 2, &says);
+    folder.served("ledger export 2026-11 e.csv --tapes tapes");
+    folder.served("month close 2026-11");
+    folder.served("month open 2026-12 --prices prices.txt");
+    let says = ["e.csv: line 2: this is play 1 of the pool; --repeats"];
+    folder.fails("ledger import e.csv", 2, &says);
+    folder.served("ledger import l.csv");
+    folder.served("ledger import e.csv --repeats");
+    folder.whole("2026-12");
+}
+
+/// Blank lines are lines, and so is one that is no text.
+#[test]
+fn lines_are_counted_as_people_count_them() {
+    let folder = Folder::with_board("counted");
+    folder.write("l.csv", "department,board,tape\n\r\n\nlab,b,no.tape\n");
+    folder.fails("ledger import l.csv", 2, &["l.csv: line 4: no.tape: "]);
+    folder.write("l.csv", b"department,board,tape\n\nlab,b,\xFF.tape\n");
+    folder.fails("ledger import l.csv", 2, &["l.csv: line 3: this is not"]);
+}
+
+/// A name that would be a formula is none in an exported ledger, and is itself
+/// again when it is imported.
+#[test]
+fn names_in_an_exported_ledger_are_tame() {
+    let folder = Folder::with_month("tame");
+    for (place, name) in (0..).zip(["=cmd.tape", "'=b.tape", "'c.tape"]) {
+        folder.write(name, program(place, 0x11));
+        folder.served(&format!("play b {name}"));
+    }
+    folder.served("ledger export 2026-11 e.csv");
+    let text = folder.text("e.csv");
+    for name in ["'=cmd.tape", "''=b.tape", "''c.tape"] {
+        assert!(text.contains(&format!("\nlab,b,{name},")), "{text}");
+    }
+    folder.served("pool new --pool other");
+    folder.served("board add b --department lab --pool other");
+    folder.served("ledger import e.csv --pool other");
+    assert_eq!(
+        folder.json("explain --board b --pool other"),
+        folder.json("explain --board b")
+    );
+}
+
+/// The bill that the text ends with is in the JSON as well.
+#[test]
+fn an_import_tells_its_bill_to_programs() {
+    let folder = loose("import-json");
+    folder.write("ledger.csv", format!("{HEAD}x,a.array,a.state,p.tape\n"));
+    let told = folder.json(IMPORT);
+    assert_eq!(told["bill"], folder.json("month bill 2026-11"));
+}

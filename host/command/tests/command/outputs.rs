@@ -45,8 +45,6 @@ fn what_is_read_is_never_the_output() {
     folder.fails("translate a.job a.payload a.payload --force", 2, &says);
     folder.write("t.txt", "finish\n");
     folder.fails("tape t.txt t.txt --force", 2, &says);
-    folder.fails("board export b tunebriar.pool --force", 2, &says);
-    folder.fails("month bill 2026-11 --csv tunebriar.pool --force", 2, &says);
     folder.fails("job a.txt c ./c", 2, &["would be written twice"]);
 }
 
@@ -206,5 +204,87 @@ fn no_room_in_the_middle_of_a_write() {
         assert_eq!(ran.status, 2, "{ran:?}");
         assert!(ran.err.contains("array: cannot be written: "), "{ran:?}");
         assert!(folder.all() == before, "{call}");
+    }
+}
+
+/// What lies under a hidden name is nobody's to follow, empty or remove.
+#[test]
+fn hidden_files_of_others_stay() {
+    let folder = Folder::with_board("hidden");
+    folder.write("t.txt", "finish\n");
+    folder.write("precious", "precious");
+    folder.write("a.tape", "old");
+    folder.write(".b.tape.tunebriar", "mine");
+    folder.write("b.tape", "old");
+    symlink("precious", folder.path.join(".a.tape.tunebriar")).expect("a link");
+    folder.served("tape t.txt a.tape --force");
+    folder.served("tape t.txt b.tape --force");
+    assert_eq!(folder.text("precious"), "precious");
+    assert_eq!(folder.text(".b.tape.tunebriar"), "mine");
+    assert_eq!(folder.bytes("b.tape").len(), 264);
+    let hidden = folder
+        .names()
+        .into_iter()
+        .filter(|name| name.starts_with('.'));
+    assert_eq!(hidden.count(), 2, "nothing of ours is left");
+}
+
+/// No book is an output, also of calls that open none.
+#[test]
+fn a_book_is_never_the_output() {
+    let folder = Folder::with_month("books");
+    folder.write("t.txt", "finish\n");
+    folder.served("pool new --pool other");
+    symlink("tunebriar.pool", folder.path.join("link.pool")).expect("a link");
+    let says = ["is the pool or belongs to it, and cannot be an output"];
+    for call in [
+        "tape t.txt tunebriar.pool --force",
+        "tape t.txt link.pool --force",
+        "tape t.txt ./tunebriar.pool-journal",
+        "tape t.txt tunebriar.pool-wal --pool link.pool",
+        "tape t.txt new --pool new",
+        "board export b tunebriar.pool --force",
+        "month bill 2026-11 --csv tunebriar.pool --force",
+        "month bill 2026-11 --csv tunebriar.pool-shm",
+    ] {
+        folder.fails(call, 2, &says);
+    }
+    let says = ["other: is a SQLite book, and cannot be an output"];
+    folder.fails("tape t.txt other --force", 2, &says);
+}
+
+/// A name of the file that a stream goes to is that stream.
+#[test]
+fn a_stream_that_is_a_file_is_written_on() {
+    let folder = Folder::with_board("streams");
+    folder.write("t.txt", "finish\n");
+    for name in ["/dev/stdout", "/dev/fd/1", "/proc/self/fd/1", "log"] {
+        let call = format!("echo old >log; tunebriar tape t.txt {name} >>log");
+        let ran = folder.shell(&call);
+        assert_eq!((ran.status, ran.out.as_str()), (0, ""), "{call}: {ran:?}");
+        assert!(ran.err.ends_with(": 1 records\n"), "{call}: {ran:?}");
+        assert_eq!(folder.bytes("log").len(), 4 + 264, "{call}");
+    }
+    let ran = folder.shell("echo old >log; tunebriar tape t.txt /dev/stderr 2>>log");
+    assert_eq!(ran.out, "/dev/stderr: 1 records\n", "{ran:?}");
+    assert_eq!(folder.bytes("log").len(), 4 + 264);
+}
+
+/// Whoever cannot see the answer is told that the play was kept all the same.
+#[test]
+fn what_is_in_the_book_is_told() {
+    let folder = Folder::with_board("in-the-book");
+    folder.write("t.tape", record(1, 0, &[]));
+    let lost = "tunebriar: standard output: cannot be written: no room is left";
+    for (call, kept) in [
+        ("transact b 06", "; play 1 is in the book"),
+        ("play b t.tape t.tape", "; plays 2 to 3 are in the book"),
+        ("board add c --department d", "; the change is in the book"),
+        ("play b t.tape --dry-run", ""),
+        ("board list", ""),
+    ] {
+        let ran = folder.shell(&format!("tunebriar {call} >/dev/full"));
+        assert_eq!(ran.status, 2, "{call}: {ran:?}");
+        assert_eq!(ran.err, format!("{lost}{kept}\n"), "{call}");
     }
 }
