@@ -84,9 +84,7 @@ impl Audit {
             .map(|boards| {
                 let mut desk = Desk::new(asked)?;
                 let boards = boards.iter();
-                boards
-                    .map(|board| desk.board(&task, board, &bar))
-                    .collect()
+                boards.map(|board| desk.board(&task, board, &bar)).collect()
             })
             .collect();
         bar.finish_and_clear();
