@@ -9,7 +9,7 @@ use crate::error::{Error, told};
 use crate::numbers::grouped;
 use crate::play::refused;
 use crate::pool::boards::{self, Board as Kept};
-use crate::pool::{Asked, bills, months, plays, sectors};
+use crate::pool::{Asked, bills, months, plays, sectors, sound};
 use crate::sha256::{hex, sha256};
 use crate::told::Told;
 use crate::{clock, files, month, progress, state_file};
@@ -237,10 +237,12 @@ fn exported(
     }
 }
 
-/// A month's bill for programs.
+/// A month's bill for programs, as `month bill` tells it.
 fn bill_json(book: &Connection, month: &str) -> Result<Value, Error> {
     let bill = json::render(&bills::bill(book, month)?, false).map_err(Error::wrong)?;
-    serde_json::from_str(&bill).map_err(Error::wrong)
+    let mut told: Value = serde_json::from_str(&bill).map_err(Error::wrong)?;
+    told["notes"] = sound::notes(book, &months::find(book, month)?)?.into();
+    Ok(told)
 }
 
 fn shown(path: &Path) -> String {
