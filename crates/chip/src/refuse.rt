@@ -25,7 +25,7 @@ pub fn transaction(
     if array_length != parts::size_of(part) {
         return refusals::refusal(2);
     }
-    if !regs::well_formed(parts::status_end(part), kept) {
+    if !parts::well_formed(part, kept) {
         return refusals::refusal(3);
     }
     if TRANSACTION_LIMIT < count {
@@ -49,7 +49,7 @@ pub fn event(part: u32, kept: Kept) -> Refusal
     if !parts::is_part(part) {
         return refusals::refusal(1);
     }
-    if !regs::well_formed(parts::status_end(part), kept) {
+    if !parts::well_formed(part, kept) {
         return refusals::refusal(3);
     }
     refusals::refusal(0)

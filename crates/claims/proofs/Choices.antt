@@ -15,10 +15,6 @@ pub both-false : (s t : Bool) → (s && t) ≡ false ↔ (s ≡ false) ⊎ (t �
 both-false true t = (inr, ⊎-elim (λ e. cc) (λ e. e))
 both-false false t = (inl, λ h. refl)
 
-pub either-true : (s t : Bool) → (s || t) ≡ true ↔ (s ≡ true) ⊎ (t ≡ true)
-either-true true t = (inl, λ h. refl)
-either-true false t = (inr, ⊎-elim (λ e. cc) (λ e. e))
-
 -- ---- tests and what they say
 
 pub =?-is : (a b : ℕ) → (a =? b) ≡ true ↔ a ≡ b

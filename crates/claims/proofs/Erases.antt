@@ -22,7 +22,8 @@ use Rattle.rules.specs.Cells.{erased}
 use Rattle.rules.specs.Verdict.{addressOf, verdictOf}
 use Rattle.rules.specs.Transaction.{turnOf}
 use Rattle.rules.specs.Transact.{isHigh, transactOf}
-use Rattle.laws.proofs.Sound.{Sound, unit-end, part-sound}
+use Rattle.laws.proofs.Sound.{Sound, unit-end}
+use Rattle.laws.proofs.Parts.{part-sound}
 use Rattle.claims.proofs.Reach.{In, written, address-inside, outside-reach, written-length}
 use Rattle.claims.proofs.Entry.{FirstSays, answered-0, carried-as}
 

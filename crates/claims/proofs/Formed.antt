@@ -1,12 +1,11 @@
 -- What is handed in well formed is handed back well formed: no entry's answer is refused 3 at the next call.
 use mathlib.Core.Path.{_≡_, refl, sym, ap, _∙_}
-use mathlib.Core.Bool.{Bool, true, false, not, _&&_}
+use mathlib.Core.Bool.{Bool, true, false, not, _&&_, _||_}
 use mathlib.Core.List.{List, [], _∷_}
 use mathlib.Core.Logic.{⊎-elim}
 use Prim.Native.Nat.{ℕ, _≤_, _<_}
 use native.Mathlib.Omega.{arith}
-use lib.Dec.{lit≤}
-use lib.ListN.{length, getD, take}
+use lib.ListN.{getD, take}
 use borrow.Author.Tests.{lt-ltb, le-leb}
 use Rattle.lists.specs.Choice.{_=?_}
 use Rattle.lists.proofs.Choice.{by-choice}
@@ -17,13 +16,11 @@ use Rattle.rules.specs.declared.Write.{Write}
 use Rattle.rules.specs.declared.Write.the-variants.{Program, Erase, WriteStatus}
 use Rattle.rules.specs.declared.Kind.{Kind}
 use Rattle.rules.specs.declared.Kind.the-variants.{WriteEnable, WriteDisable, ReadStatusLow, ReadStatusHigh, Read, FastRead, Sleep, Wake, ReadMakerDevice, ReadJedec, Writes}
-use Rattle.rules.specs.declared.Command.the-variants.{Known}
 use Rattle.rules.specs.declared.Verdict.{Verdict}
 use Rattle.rules.specs.declared.Verdict.the-variants.{CarriedOut, Ignored}
-use Rattle.rules.specs.Kinds.{codeOf}
-use Rattle.rules.specs.Status.{bit0, bitAt, flag, implies, regsOf, statusOf, keptOf, wellFormed, withBusy, withWel, withSrp1}
-use Rattle.rules.specs.Part.{Part, commandIn, commandOf}
-use Rattle.rules.specs.Fm25q16.{fmCommands, fmFirst, fmSecond, fmStatusWritten, fm25q16}
+use Rattle.rules.specs.Status.{bit0, bitAt, flag, regsOf, statusOf, keptOf, withBusy, withWel, withSrp1, withAwake}
+use Rattle.rules.specs.WellFormed.{implies, wordFormed, awakeFormed, wellFormed}
+use Rattle.rules.specs.Part.{Part}
 use Rattle.rules.specs.Parts.{partOf}
 use Rattle.rules.specs.Verdict.{verdictOf}
 use Rattle.rules.specs.Transaction.{regsDone, regsAfter, turnOf}
@@ -33,18 +30,22 @@ use Rattle.rules.specs.EventEntries.{EventTold, eventOf, finishOf, powerCycleOf
 use Rattle.rules.specs.Tape.{Rec, transaction, finish, powerCycle, records, recsOf}
 use Rattle.rules.specs.Play.{State, state, playRec, play}
 use Rattle.rules.specs.Replay.{ReplaySeen, replayServed, replayRefused, replayFirstOf, replayOf}
-use Rattle.rules.proofs.Apart.{code-back}
-use Rattle.claims.proofs.Table.{heard-asleep, heard-busy}
+use Rattle.laws.proofs.Flags.{flag-small}
+use Rattle.laws.proofs.Steady.{Steady, never-sleeps}
+use Rattle.laws.proofs.Parts.{part-steady}
 use Rattle.claims.proofs.Entry.{by-answer}
 use Rattle.claims.proofs.Allowed.{Allowed, carried-out-is-allowed}
-use Rattle.claims.proofs.RoundTrip.{formed-word, flag-small, regs-back}
+use Rattle.claims.proofs.RoundTrip.{formed-word, kept-back, regs-back}
 
 -- ---- well formed, said of the registers
 
-pub record Formed (r : Regs) : Type 0 where
+pub record Formed (p : Part) (r : Regs) : Type 0 where
+  -- no bit that the chip lacks
+  pub held : statusOf r < p .statusEnd
   pub small : r .setting < 32
   pub busy-wel : r .busy ≡ true → r .wel ≡ true
   pub busy-awake : r .busy ≡ true → r .awake ≡ true
+  pub sleepless : p .sleeps ≡ false → r .awake ≡ true
 
 implied : (s t : Bool) → implies s t ≡ true → s ≡ true → t ≡ true
 implied true t e h = e
@@ -54,160 +55,151 @@ implies-back : (s t : Bool) → (s ≡ true → t ≡ true) → implies s t ≡ 
 implies-back true t h = h refl
 implies-back false t h = refl
 
-pub kept-formed : (end : ℕ) (k : Kept) → wellFormed end k ≡ true → Formed (regsOf k)
-unfolding regsOf
-kept-formed end k e =
-    let h = formed-word end k e in
-    record { small = omega arith; busy-wel = implied _ _ (h .busy-wel); busy-awake = implied _ _ (h .busy-awake) }
+pub kept-formed : (p : Part) → Steady p → (k : Kept) → wellFormed p k ≡ true → Formed p (regsOf k)
+unfolding regsOf keptOf
+kept-formed p steady k e =
+    let h = formed-word p k e in
+    let word : statusOf (regsOf k) ≡ k .status = ap (λ (j : Kept). j .status) (kept-back p steady k e) in
+    record {
+      held = omega (arith, word, h .small);
+      small = omega arith;
+      busy-wel = implied _ _ (h .busy-wel);
+      busy-awake = implied _ _ (h .busy-awake);
+      sleepless = λ n. ap (λ (t : Bool). t || (k .awake =? 1)) (sym n) ∙ h .sleeper;
+    }
 
-status-small : (r : Regs) → r .setting < 32 → statusOf r < 1024
-unfolding statusOf
-status-small r h =
-    omega (arith, flag-small (r .busy), flag-small (r .wel), flag-small (r .srp0), flag-small (r .srp1), flag-small (r .qe))
+or-back : (s t : Bool) → (s ≡ false → t ≡ true) → (s || t) ≡ true
+or-back true t h = refl
+or-back false t h = h refl
 
-four : (s t u v : Bool) → s ≡ true → t ≡ true → u ≡ true → v ≡ true → (s && t && u && v) ≡ true
-four s t u v a b c d = rw (a, b, c, d)
+five : (s t u v w : Bool) → s ≡ true → t ≡ true → u ≡ true → v ≡ true → w ≡ true → ((s && t) && (u && v && w)) ≡ true
+five s t u v w a b c d e = rw (a, b, c, d, e)
 
-pub formed-kept : (end : ℕ) (r : Regs) → 1024 ≤ end → Formed r → wellFormed end (keptOf r) ≡ true
-unfolding wellFormed keptOf regsOf
-formed-kept end r long h =
+pub formed-kept : (p : Part) (r : Regs) → Formed p r → wellFormed p (keptOf r) ≡ true
+unfolding wellFormed wordFormed awakeFormed keptOf regsOf
+formed-kept p r h =
     let back = regs-back r (h .small) in
     let busy : r .busy ≡ bit0 (statusOf r) = sym (ap (λ (s : Regs). s .busy) back) in
-    four _ _ _ _
-    (lt-ltb (statusOf r) end (omega (arith, status-small r (h .small))))
-    (le-leb (flag (r .awake)) 1 (omega (arith, flag-small (r .awake))))
+    let awake : (flag (r .awake) =? 1) ≡ r .awake = ap (λ (s : Regs). s .awake) back in
+    five _ _ _ _ _
+    (lt-ltb (statusOf r) (p .statusEnd) (h .held))
     (implies-back (bit0 (statusOf r)) (bitAt 2 (statusOf r)) (λ e. ap (λ (s : Regs). s .wel) back ∙ h .busy-wel (busy ∙ e)))
-    (implies-back (bit0 (statusOf r)) (flag (r .awake) =? 1) (λ e. ap (λ (s : Regs). s .awake) back ∙ h .busy-awake (busy ∙ e)))
+    (le-leb (flag (r .awake)) 1 (omega (arith, flag-small (r .awake))))
+    (implies-back (bit0 (statusOf r)) (flag (r .awake) =? 1) (λ e. awake ∙ h .busy-awake (busy ∙ e)))
+    (or-back (p .sleeps) (flag (r .awake) =? 1) (λ e. awake ∙ h .sleepless e))
 
--- ---- what is asked of a chip
+-- ---- the word after one register was set
 
-pub record Steady (p : Part) : Type 0 where
-  pub ends : 1024 ≤ p .statusEnd
-  -- while BUSY is 1 it hears nothing that changes a register, and asleep it hears no write
-  pub busy-quiet : (op : ℕ) (k : Kind) → p .heardBusy op ≡ true → commandOf p op ≡ Known k → (r : Regs) (b : List ℕ) → regsDone p r b k ≡ r
-  pub asleep-quiet : (op : ℕ) (w : Write) → p .heardAsleep op ≡ true → commandOf p op ≡ Known (Writes w) → ⊥
-  -- a status write sets a setting of 0 to 31, and neither WEL nor awake
-  pub status-small : (r : Regs) (b : List ℕ) → p .statusWritten r b .setting < 32
-  pub status-wel : (r : Regs) (b : List ℕ) → p .statusWritten r b .wel ≡ r .wel
-  pub status-awake : (r : Regs) (b : List ℕ) → p .statusWritten r b .awake ≡ r .awake
+-- every chip has BUSY and WEL
+free-bits : (p : Part) → Steady p → (r : Regs) (b w : Bool) → statusOf r < p .statusEnd → statusOf (withWel (withBusy r b) w) < p .statusEnd
+unfolding statusOf
+free-bits p steady r b w h =
+    omega (arith, h, steady .low-bits, flag-small (r .busy), flag-small (r .wel), flag-small b, flag-small w)
+
+-- a bit that falls leaves the word below its end
+srp1-falls : (p : Part) (r : Regs) → statusOf r < p .statusEnd → statusOf (withSrp1 r false) < p .statusEnd
+unfolding statusOf
+srp1-falls p r h = omega (arith, h)
 
 -- ---- transactions and events keep it
 
-module _ (p : Part) (steady : Steady p) (r : Regs) (b : List ℕ) (x : ℕ) (high : Bool) (h : Formed r) where
+module _ (p : Part) (steady : Steady p) (r : Regs) (b : List ℕ) (x : ℕ) (high : Bool) (h : Formed p r) where
   was-awake : (w : Write) → Allowed p r b x high (Writes w) → r .awake ≡ true
   was-awake w a = ⊎-elim (λ f. f) (λ f. absurd (steady .asleep-quiet (getD b 0 0) w f (a .known))) (a .awake)
 
-  formed-idle : r .busy ≡ false → (k : Kind) → Allowed p r b x high k → Formed (regsDone p r b k)
-  formed-idle i WriteEnable a = record { small = h .small; busy-wel = λ e. refl; busy-awake = h .busy-awake }
-  formed-idle i WriteDisable a = record { small = h .small; busy-wel = λ e. cc; busy-awake = h .busy-awake }
+  word-awake : (t : Bool) → statusOf (withAwake r t) < p .statusEnd
+  unfolding statusOf
+  word-awake t = h .held
+
+  -- a write sets BUSY, on the registers t that it leaves
+  written : (w : Write) → Allowed p r b x high (Writes w) → (t : Regs) → statusOf t < p .statusEnd → t .setting < 32
+      → t .wel ≡ r .wel → t .awake ≡ r .awake → Formed p (withBusy t true)
+  written w a t held small wel awake =
+      record {
+        held = free-bits p steady t true (t .wel) held;
+        small = small;
+        busy-wel = λ e. wel ∙ a .may-write w refl .enabled;
+        busy-awake = λ e. awake ∙ was-awake w a;
+        sleepless = λ e. awake ∙ h .sleepless e;
+      }
+
+  formed-idle : r .busy ≡ false → (k : Kind) → Allowed p r b x high k → Formed p (regsDone p r b k)
+  formed-idle i WriteEnable a =
+      record { held = free-bits p steady r (r .busy) true (h .held); small = h .small; busy-wel = λ e. refl; busy-awake = h .busy-awake; sleepless = h .sleepless }
+  formed-idle i WriteDisable a =
+      record { held = free-bits p steady r (r .busy) false (h .held); small = h .small; busy-wel = λ e. cc; busy-awake = h .busy-awake; sleepless = h .sleepless }
   formed-idle i ReadStatusLow a = h
   formed-idle i ReadStatusHigh a = h
   formed-idle i Read a = h
   formed-idle i FastRead a = h
-  formed-idle i Sleep a = record { small = h .small; busy-wel = h .busy-wel; busy-awake = λ e. cc }
-  formed-idle i Wake a = record { small = h .small; busy-wel = h .busy-wel; busy-awake = λ e. refl }
+  formed-idle i Sleep a =
+      record {
+        held = word-awake false;
+        small = h .small;
+        busy-wel = h .busy-wel;
+        busy-awake = λ e. cc;
+        sleepless = λ e. absurd (never-sleeps p steady e (getD b 0 0) (a .known));
+      }
+  formed-idle i Wake a =
+      record { held = word-awake true; small = h .small; busy-wel = h .busy-wel; busy-awake = λ e. refl; sleepless = λ e. refl }
   formed-idle i ReadMakerDevice a = h
   formed-idle i ReadJedec a = h
-  formed-idle i (Writes Program) a =
-      record { small = h .small; busy-wel = λ e. a .may-write Program refl .enabled; busy-awake = λ e. was-awake Program a }
-  formed-idle i (Writes (Erase u)) a =
-      record { small = h .small; busy-wel = λ e. a .may-write (Erase u) refl .enabled; busy-awake = λ e. was-awake (Erase u) a }
+  formed-idle i (Writes Program) a = written Program a r (h .held) (h .small) refl refl
+  formed-idle i (Writes (Erase u)) a = written (Erase u) a r (h .held) (h .small) refl refl
   formed-idle i (Writes WriteStatus) a =
-      record {
-        small = steady .status-small r b;
-        busy-wel = λ e. steady .status-wel r b ∙ a .may-write WriteStatus refl .enabled;
-        busy-awake = λ e. steady .status-awake r b ∙ was-awake WriteStatus a;
-      }
+      written WriteStatus a (p .statusWritten r b) (steady .status-held r b (h .held)) (steady .status-small r b) (steady .status-wel r b) (steady .status-awake r b)
 
-  formed-at : (v : Verdict) → verdictOf p r b x high ≡ v → Formed (regsAfter p r b v)
+  formed-at : (v : Verdict) → verdictOf p r b x high ≡ v → Formed p (regsAfter p r b v)
   formed-at (CarriedOut k) e =
       let a = carried-out-is-allowed p r b x high k e in
       ⊎-elim (λ i. formed-idle i k a) (λ f. rw (steady .busy-quiet (getD b 0 0) k f (a .known) r b) h) (a .idle)
   formed-at (Ignored w) e = h
 
-pub formed-turn : (p : Part) → Steady p → (r : Regs) (l b : List ℕ) (x : ℕ) (high : Bool) → Formed r → Formed (turnOf p r l b x high .regs)
+pub formed-turn : (p : Part) → Steady p → (r : Regs) (l b : List ℕ) (x : ℕ) (high : Bool) → Formed p r → Formed p (turnOf p r l b x high .regs)
 unfolding turnOf
 formed-turn p steady r l b x high h = formed-at p steady r b x high h (verdictOf p r b x high) refl
 
-pub formed-finished : (r : Regs) → Formed r → Formed (finished r)
+pub formed-finished : (p : Part) → Steady p → (r : Regs) → Formed p r → Formed p (finished r)
 unfolding finished
-formed-finished r h =
-    by-choice Formed (r .busy) (withWel (withBusy r false) false) r
-    (record { small = h .small; busy-wel = λ e. e; busy-awake = λ e. cc })
+formed-finished p steady r h =
+    by-choice (Formed p) (r .busy) (withWel (withBusy r false) false) r
+    (record { held = free-bits p steady r false false (h .held); small = h .small; busy-wel = λ e. e; busy-awake = λ e. cc; sleepless = h .sleepless })
     h
 
-pub formed-power-cycled : (r : Regs) → Formed r → Formed (powerCycled r)
-unfolding powerCycled unlatched
-formed-power-cycled r h =
+pub formed-power-cycled : (p : Part) → Steady p → (r : Regs) → Formed p r → Formed p (powerCycled r)
+unfolding powerCycled unlatched statusOf
+formed-power-cycled p steady r h =
+    let t : Bool = r .srp1 && not (r .srp0) in
     record {
-      small = by-choice (λ s. s .setting < 32) (r .srp1 && not (r .srp0)) (withSrp1 r false) r (h .small) (h .small);
+      held = free-bits p steady (unlatched r) false false (by-choice (λ (s : Regs). statusOf s < p .statusEnd) t (withSrp1 r false) r (srp1-falls p r (h .held)) (h .held));
+      small = by-choice (λ (s : Regs). s .setting < 32) t (withSrp1 r false) r (h .small) (h .small);
       busy-wel = λ e. e;
       busy-awake = λ e. refl;
+      sleepless = λ e. refl;
     }
 
-formed-record : (p : Part) → Steady p → (e : Rec) (s : State) → Formed (s .regs) → Formed (playRec p e s .regs)
+formed-record : (p : Part) → Steady p → (e : Rec) (s : State) → Formed p (s .regs) → Formed p (playRec p e s .regs)
 unfolding playRec
 formed-record p steady (transaction b x high) s h = formed-turn p steady (s .regs) (s .array) b x high h
-formed-record p steady finish s h = formed-finished (s .regs) h
-formed-record p steady powerCycle s h = formed-power-cycled (s .regs) h
+formed-record p steady finish s h = formed-finished p steady (s .regs) h
+formed-record p steady powerCycle s h = formed-power-cycled p steady (s .regs) h
 
-pub formed-played : (p : Part) → Steady p → (es : List Rec) (s : State) → Formed (s .regs) → Formed (play p es s .regs)
+pub formed-played : (p : Part) → Steady p → (es : List Rec) (s : State) → Formed p (s .regs) → Formed p (play p es s .regs)
 unfolding play
 formed-played p steady [] s h = h
 formed-played p steady (e ∷ es) s h = formed-played p steady es (playRec p e s) (formed-record p steady e s h)
-
--- ---- the FM25Q16 is such a chip
-
--- a code of the kind j says no other kind
-says : (op : ℕ) (j k : Kind) → op ≡ codeOf j → commandIn fmCommands op ≡ Known k → j ≡ k
-says op j k e q = let c = code-back j in cc
-
-part-busy : (op : ℕ) (k : Kind) → partOf 1 .heardBusy op ≡ true → commandIn fmCommands op ≡ Known k → (r : Regs) (b : List ℕ) → regsDone fm25q16 r b k ≡ r
-part-busy op k h e r b =
-    ⊎-elim (λ q. rw (← says op ReadStatusLow k q e)) (λ q. rw (← says op ReadStatusHigh k q e)) (heard-busy op .0 h)
-
-part-asleep : (op : ℕ) (w : Write) → partOf 1 .heardAsleep op ≡ true → commandIn fmCommands op ≡ Known (Writes w) → ⊥
-part-asleep op w h e =
-    let q = says op Wake (Writes w) (heard-asleep op .0 h) e in
-    let z : _≡_ {A = ℕ} 0 1 = cc in
-    omega arith
-
--- a status write, whether it has a second byte or not
-record StatusKept (r after : Regs) : Type 0 where
-  small : after .setting < 32
-  wel : after .wel ≡ r .wel
-  awake : after .awake ≡ r .awake
-
-fm-written : (r : Regs) (b : List ℕ) → StatusKept r (fmStatusWritten r b)
-unfolding fmStatusWritten fmFirst fmSecond
-fm-written r b =
-    by-choice (StatusKept r) (length b =? 3) _ _
-    (record { small = omega arith; wel = refl; awake = refl })
-    (record { small = omega arith; wel = refl; awake = refl })
-
-pub part-steady : (part : ℕ) → Steady (partOf part)
-unfolding partOf fm25q16 commandOf
-part-steady part =
-    record {
-      ends = lit≤ tt;
-      busy-quiet = part-busy;
-      asleep-quiet = part-asleep;
-      status-small = λ r b. fm-written r b .small;
-      status-wel = λ r b. fm-written r b .wel;
-      status-awake = λ r b. fm-written r b .awake;
-    }
 
 -- ---- the word that is handed back
 
 -- refusal 3 is not given for it
 abbrev pub Fit : ℕ → Kept → Type 0
-Fit part k = wellFormed (partOf part .statusEnd) k ≡ true
+Fit part k = wellFormed (partOf part) k ≡ true
 
 -- registers that one step keeps formed
-formed-word-after : (part : ℕ) (kept : Kept) (f : Regs → Regs) → ((r : Regs) → Formed r → Formed (f r))
+formed-word-after : (part : ℕ) (kept : Kept) (f : Regs → Regs) → ((r : Regs) → Formed (partOf part) r → Formed (partOf part) (f r))
     → Fit part kept → Fit part (keptOf (f (regsOf kept)))
 formed-word-after part kept f g e =
-    formed-kept (partOf part .statusEnd) (f (regsOf kept)) (part-steady part .ends) (g (regsOf kept) (kept-formed (partOf part .statusEnd) kept e))
+    formed-kept (partOf part) (f (regsOf kept)) (g (regsOf kept) (kept-formed (partOf part) (part-steady part) kept e))
 
 module _ (part : ℕ) (kept : Kept) (formed : Fit part kept) where
   -- after a transaction, whatever its verdict
@@ -218,10 +210,10 @@ module _ (part : ℕ) (kept : Kept) (formed : Fit part kept) where
       (λ r h. formed-at (partOf part) (part-steady part) r b x high h _ refl) formed
 
   pub formed-after-finish : Fit part (keptOf (finished (regsOf kept)))
-  formed-after-finish = formed-word-after part kept finished formed-finished formed
+  formed-after-finish = formed-word-after part kept finished (formed-finished (partOf part) (part-steady part)) formed
 
   pub formed-after-power-cycle : Fit part (keptOf (powerCycled (regsOf kept)))
-  formed-after-power-cycle = formed-word-after part kept powerCycled formed-power-cycled formed
+  formed-after-power-cycle = formed-word-after part kept powerCycled (formed-power-cycled (partOf part) (part-steady part)) formed
 
   -- .. and so what each entry hands back, whether it serves or refuses
   pub transact-formed : (m : Meter) (l o b : List ℕ) (x wp : ℕ) → Fit part (transactOf part kept m l o b x wp .answer .regs)

@@ -53,11 +53,11 @@ write-numbered p r high a k w =
     (next (lockedOut w r high) 15 _ (lit≤ tt) (lit≤ tt)
     (protection-numbered k (firstProtected p (r .setting) (reachStart w a) (reachLength p w))))
 
-command-numbered : (p : Part) (r : Regs) (n x : ℕ) (high : Bool) (op a : ℕ) (c : Command) → Numbered (ofKnown c (ignored 12) (kindVerdict p r n x high op a))
+command-numbered : (p : Part) (r : Regs) (fit high : Bool) (a : ℕ) (c : Command) → Numbered (ofKnown c (ignored 12) (kindVerdict p r fit high a))
 unfolding ofKnown kindVerdict ofWrite
-command-numbered p r n x high op a Unknown = (lit≤ tt, lit≤ tt)
-command-numbered p r n x high op a (Known k) =
-    next (not (shaped p op n x)) 13 _ (lit≤ tt) (lit≤ tt)
+command-numbered p r fit high a Unknown = (lit≤ tt, lit≤ tt)
+command-numbered p r fit high a (Known k) =
+    next (not fit) 13 _ (lit≤ tt) (lit≤ tt)
     (by-write (λ j. Numbered (ofWrite j (CarriedOut j) (writeVerdict p r high a j)))
     (λ j h. rw (h .writes-nothing Verdict (CarriedOut j) (writeVerdict p r high a j)) tt)
     (λ w. write-numbered p r high a (Writes w) w) k)
@@ -67,10 +67,10 @@ pub ignored-number : (p : Part) (r : Regs) (b : List ℕ) (x : ℕ) (high : Bool
 unfolding judgeOf
 ignored-number p r b x high w e =
     let op = getD b 0 0 in
-    let numbered : Numbered (judgeOf p r (length b) x high op (addressOf p b) (commandOf p op)) =
+    let numbered : Numbered (judgeOf p r (length b) (shaped p op (length b) x) high op (addressOf p b) (commandOf p op)) =
     next (length b =? 0) 12 _ (lit≤ tt) (lit≤ tt)
     (next (unheardAsleep p r op) 11 _ (lit≤ tt) (lit≤ tt)
-    (next (unheardBusy p r op) 10 _ (lit≤ tt) (lit≤ tt) (command-numbered p r (length b) x high op (addressOf p b) (commandOf p op)))) in
+    (next (unheardBusy p r op) 10 _ (lit≤ tt) (lit≤ tt) (command-numbered p r (shaped p op (length b) x) high (addressOf p b) (commandOf p op)))) in
     subst Numbered (sym (verdict-judged p r b x high) ∙ e) numbered
 
 -- ---- what an ignored transaction changes

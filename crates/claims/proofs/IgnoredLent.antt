@@ -10,10 +10,9 @@ use Rattle.lists.specs.Places.{tabulate}
 use Rattle.rules.specs.declared.Kept.{Kept}
 use Rattle.rules.specs.declared.Meter.{Meter}
 use Rattle.rules.specs.Cells.{ff}
-use Rattle.rules.specs.Fm25q16.{fm25q16}
-use Rattle.rules.specs.Parts.{partOf}
 use Rattle.rules.specs.Counts.{ignoredCounted}
 use Rattle.rules.specs.Transact.{TransactSeen, transactOf}
+use Rattle.laws.proofs.Parts.{part-steady}
 use Rattle.claims.proofs.Choices.{never}
 use Rattle.claims.proofs.RoundTrip.{kept-back}
 use Rattle.claims.proofs.Entry.{by-answer}
@@ -29,9 +28,8 @@ pub record OneCountLent (kept : Kept) (m : Meter) (l o b : List ℕ) (s : Transa
 pub ignored-lent : (part : ℕ) (kept : Kept) (m : Meter) (l o b : List ℕ) (x wp : ℕ)
     → transactOf part kept m l o b x wp .answer .served ≡ true → 1 ≤ transactOf part kept m l o b x wp .answer .number
     → OneCountLent kept m l o b (transactOf part kept m l o b x wp)
-unfolding partOf fm25q16
 ignored-lent part kept m l o b x wp =
     by-answer part kept m l o b x wp (λ s. s .answer .served ≡ true → 1 ≤ s .answer .number → OneCountLent kept m l o b s)
     (λ c k e s n. absurd (omega arith))
-    (λ c w e s n. record { out = refl; array = refl; regs = kept-back kept (c .begun .formed); meter = refl })
+    (λ c w e s n. record { out = refl; array = refl; regs = kept-back _ (part-steady part) kept (c .begun .formed); meter = refl })
     (λ h k s n. never (sym s))

@@ -15,7 +15,7 @@ use Rattle.rules.specs.Status.{regsOf, keptOf}
 use Rattle.rules.specs.Refusals.{_orElse_}
 use Rattle.rules.specs.Tape.{Rec, records, recsOf}
 use Rattle.rules.specs.Play.{State, state, play}
-use Rattle.rules.specs.Replay.{recordsRefusal, replayRefusal, replaySeen, replayOf}
+use Rattle.rules.specs.Replay.{recordsRefusal, replayRefusal, playedTold, replaySeen, replayOf}
 use Rattle.rules.specs.Job.{stepsOf, arrayMeant, allRegsMeant}
 use Rattle.rules.specs.JobRefusals.{jobRefusal}
 use Rattle.rules.specs.Records.{jobRecs}
@@ -56,7 +56,7 @@ module _ (part s : ℕ) (job payload buffer : List ℕ) (served : translateOf pa
   pub tape-is : tapeWritten part s job payload buffer ≡ w
   tape-is = written .1
 
-  unrefused : jobRefusal part s job (length payload) .number ≡ 0
+  pub unrefused : jobRefusal part s job (length payload) .number ≡ 0
   unrefused = written .0
 
   ok : RecsOk rs
@@ -84,7 +84,7 @@ module _ (part s : ℕ) (job payload buffer : List ℕ) (served : translateOf pa
     start : State
     start = state (regsOf kept) l m
 
-    tape-played : replayOf part kept m l w ≡ replaySeen (record { served = true; number = 0; code = 0; index = 0; regs = keptOf (allRegsMeant (regsOf kept) (stepsOf job)); meter = raised m (billOf (stepsOf job)) }) (arrayMeant (partOf part) payload l (stepsOf job))
+    tape-played : replayOf part kept m l w ≡ replaySeen (playedTold (keptOf (allRegsMeant (partOf part) (regsOf kept) (stepsOf job))) (raised m (billOf (stepsOf job)))) (arrayMeant (partOf part) payload l (stepsOf job))
     unfolding replayOf start
     tape-played =
         sym (replay-served part kept m l w (records w) (afterJob (partOf part) payload (stepsOf job) start) replay-unrefused
@@ -100,7 +100,7 @@ module _ (part s : ℕ) (job payload buffer : List ℕ) (served : translateOf pa
     job-means-what-it-says =
         subst (λ (t : List ℕ). Means part s job payload t kept m l) (sym tape-is)
         (record {
-          played = tape-played ∙ ap (λ (b : Bill). replaySeen (record { served = true; number = 0; code = 0; index = 0; regs = keptOf (allRegsMeant (regsOf kept) (stepsOf job)); meter = raised m b }) (arrayMeant (partOf part) payload l (stepsOf job))) (sym bill-is);
+          played = tape-played ∙ ap (λ (b : Bill). replaySeen (playedTold (keptOf (allRegsMeant (partOf part) (regsOf kept) (stepsOf job))) (raised m b)) (arrayMeant (partOf part) payload l (stepsOf job))) (sym bill-is);
           none-ignored = tape-heeded;
           long = tape-long part s job payload unrefused ∙ ap (λ (b : Bill). b .length) (sym bill-is);
         })

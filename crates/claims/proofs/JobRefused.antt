@@ -14,17 +14,17 @@ use Rattle.lists.specs.Choice.{if_then_else_, _=?_, _<?_}
 use Rattle.rules.specs.declared.Refusal.{Refusal}
 use Rattle.rules.specs.Part.{Part}
 use Rattle.rules.specs.Parts.{isPart, partOf}
-use Rattle.rules.specs.Job.{stepLength, settingLimit, stepAt, stepCount}
+use Rattle.rules.specs.Job.{stepLength, stepAt, stepCount}
 use Rattle.rules.specs.Refusals.{refusal, refusalAt, _orElse_}
-use Rattle.rules.specs.JobRefusals.{jobLimit, payloadLimit, unfit, decodedNumber, stepsRefusal, jobRefusal}
+use Rattle.rules.specs.JobRefusals.{jobLimit, payloadLimit, unfit, decodedRefusal, stepsRefusal, jobRefusal}
 use Rattle.job.specs.Carried.{settingAt}
 use Rattle.claims.specs.TurnedAway.{Wrong, Right, Unfit, JobTurnedAway, for-1, for-20, for-21, for-step}
 use Rattle.claims.proofs.Choices.{=?-is, <?-is, not-is, fails-is, or-or-is}
-use Rattle.claims.proofs.StepWrong.{wrong-number, number-wrong}
+use Rattle.claims.proofs.StepWrong.{wrong-number, number-wrong, refused-here}
 
 -- the number of step i, checked at the setting that the guards before it leave; 0 where it is not refused
 abbrev numberAt : Part → ℕ → ℕ → List ℕ → ℕ → ℕ
-numberAt p s pl job i = decodedNumber p (settingAt job s i) pl (stepAt job i)
+numberAt p s pl job i = decodedRefusal p (settingAt job s i) pl i (stepAt job i) .number
 
 -- of the places from a up to b, i is the first where f is not 0, and there it is n
 record First (f : ℕ → ℕ) (a b n i : ℕ) : Type 0 where
@@ -49,7 +49,7 @@ module _ (p : Part) (s pl : ℕ) (job : List ℕ) where
 
   next-refuses : (a n : ℕ) → (f a ≡ 0 → ⊥) → left a (suc n) ≡ refusalAt (f a) a
   unfolding stepsRefusal _orElse_ if_then_else_
-  next-refuses a n h = rw (ne-eqb (f a) 0 h)
+  next-refuses a n h = rw (ne-eqb (f a) 0 h) (refused-here p (settingAt job s a) pl a (stepAt job a) h)
 
   refused-first : (a m b n i : ℕ) → b ≡ a + m → (n ≡ 0 → ⊥) → left a m ≡ refusalAt n i → First f a b n i
   unfolding stepsRefusal
@@ -111,9 +111,9 @@ module _ (part s : ℕ) (job : List ℕ) (pl : ℕ) where
   abbrev steps : Refusal
   steps = stepsRefusal (partOf part) (settingAt job s 0) pl job 0 (stepCount job)
 
-  the-steps : isPart part ≡ true → unfit job pl ≡ false → s ≤ settingLimit → jobRefusal part s job pl ≡ steps
+  the-steps : isPart part ≡ true → unfit job pl ≡ false → s ≤ partOf part .settingLimit → jobRefusal part s job pl ≡ steps
   unfolding jobRefusal settingAt if_then_else_
-  the-steps known fits small = rw (known, fits, le-ltb settingLimit s small)
+  the-steps known fits small = rw (known, fits, le-ltb (partOf part .settingLimit) s small)
 
   abbrev Holds : Refusal → Type 0
   Holds z = JobTurnedAway part s job pl (z .number) (z .index)
@@ -121,17 +121,17 @@ module _ (part s : ℕ) (job : List ℕ) (pl : ℕ) where
   -- what is refused is refused for a reason
   refused-holds : (jobRefusal part s job pl .number ≡ 0 → ⊥) → Holds (jobRefusal part s job pl)
   unfolding jobRefusal settingAt if_then_else_
-  refused-holds h = go (isPart part) (unfit job pl) (settingLimit <? s) refl refl refl h
+  refused-holds h = go (isPart part) (unfit job pl) (partOf part .settingLimit <? s) refl refl refl h
     where
-      go : (k u o : Bool) → isPart part ≡ k → unfit job pl ≡ u → (settingLimit <? s) ≡ o
+      go : (k u o : Bool) → isPart part ≡ k → unfit job pl ≡ u → (partOf part .settingLimit <? s) ≡ o
           → ((if not k then refusal 1 else if u then refusal 20 else if o then refusal 21 else steps) .number ≡ 0 → ⊥)
           → Holds (if not k then refusal 1 else if u then refusal 20 else if o then refusal 21 else steps)
       go false u o e f g h = for-1 e
       go true true o e f g h = for-20 e (unfit-is job pl .0 f)
-      go true false true e f g h = for-21 e (fails-is (unfit job pl) _ (unfit-is job pl) .0 f) (ltb-true settingLimit s g)
+      go true false true e f g h = for-21 e (fails-is (unfit job pl) _ (unfit-is job pl) .0 f) (ltb-true (partOf part .settingLimit) s g)
       go true false false e f g h =
           let q = refused-first (partOf part) s pl job 0 (stepCount job) (stepCount job) (steps .number) (steps .index) (omega arith) h refl in
-          for-step e (fails-is (unfit job pl) _ (unfit-is job pl) .0 f) (ltb-false settingLimit s g) (steps .number) (steps .index) (q .there)
+          for-step e (fails-is (unfit job pl) _ (unfit-is job pl) .0 f) (ltb-false (partOf part .settingLimit) s g) (steps .number) (steps .index) (q .there)
           (λ j k. zero-right (partOf part) s pl job j (q .before j (omega arith) k))
           (subst (Wrong (partOf part) (settingAt job s (steps .index)) pl job (steps .index)) (q .number)
           (number-wrong (partOf part) (settingAt job s (steps .index)) pl job (steps .index) (λ z. h (sym (q .number) ∙ z))))
@@ -141,7 +141,7 @@ module _ (part s : ℕ) (job : List ℕ) (pl : ℕ) where
   unfolding jobRefusal if_then_else_
   holds-refused n i (for-1 e) = (rw e refl, λ z. omega arith)
   holds-refused n i (for-20 e u) = (rw (e, unfit-is job pl .1 u) refl, λ z. omega arith)
-  holds-refused n i (for-21 e u h) = (rw (e, fails-is (unfit job pl) _ (unfit-is job pl) .1 u, lt-ltb settingLimit s h) refl, λ z. omega arith)
+  holds-refused n i (for-21 e u h) = (rw (e, fails-is (unfit job pl) _ (unfit-is job pl) .1 u, lt-ltb (partOf part .settingLimit) s h) refl, λ z. omega arith)
   holds-refused n i (for-step e u h k j there before wrong) =
       let q = wrong-number (partOf part) (settingAt job s j) pl job j k wrong in (
         the-steps e (fails-is (unfit job pl) _ (unfit-is job pl) .1 u) h

@@ -9,7 +9,7 @@ use lib.Dec.{eqb}
 use lib.ListN.{length}
 use borrow.Author.Tests.{eq-eqb, eqb-false, le-leb}
 use Rattle.lists.specs.Choice.{if_then_else_, _=?_, _≤?_}
-use Rattle.lists.proofs.Choice.{either-false, by-choice}
+use Rattle.lists.proofs.Choice.{either-true, either-false, by-choice}
 use Rattle.lists.specs.declared.Found.{Found}
 use Rattle.lists.specs.declared.Found.the-variants.{At, Nothing}
 use Rattle.rules.specs.declared.Kept.{Kept}
@@ -23,17 +23,17 @@ use Rattle.rules.specs.Kinds.{codeOf}
 use Rattle.rules.specs.Part.{Part}
 use Rattle.rules.specs.Parts.{partOf}
 use Rattle.rules.specs.Status.{regsOf}
-use Rattle.rules.specs.Refusals.{refusal, accepted, _orElse_, transactRefusal, eventRefusal}
+use Rattle.rules.specs.Refusals.{refusal, refusalAt, accepted, _orElse_, transactRefusal, eventRefusal}
 use Rattle.rules.specs.Transact.{TransactSeen, isHigh, transactOf}
 use Rattle.rules.specs.Events.{finished, powerCycled}
 use Rattle.rules.specs.EventEntries.{EventTold, eventOf, finishOf, powerCycleOf}
 use Rattle.rules.specs.Tape.{firstBad}
 use Rattle.rules.specs.Replay.{badRecord, recordsRefusal, replayRefusal, ReplaySeen, replayServed, replayRefused, replayFirstOf, replayOf}
 use Rattle.rules.specs.Job.{stepAt, stepCount}
-use Rattle.rules.specs.JobRefusals.{stepNumber, decodedNumber, settingAfter, stepsRefusal, jobRefusal}
+use Rattle.rules.specs.JobRefusals.{outside, beyond, firstShielded, shielded, stepRefusal, decodedRefusal, settingAfter, stepsRefusal, jobRefusal}
 use Rattle.rules.specs.Translate.{translateRefusal, TranslateSeen, translateOf, BillTold, quoteOf}
 use Rattle.tunebriar.specs.CEntries.{tbEvent, tbBill, tbTransact, tbReplay, tbTranslate}
-use Rattle.claims.proofs.Choices.{either-true, never}
+use Rattle.claims.proofs.Choices.{never}
 use Rattle.claims.proofs.Ignored.{ignored-number}
 use Rattle.claims.proofs.Entry.{FirstSays, by-answer, answered-0}
 
@@ -168,18 +168,25 @@ replay-number-tells part kept m l t = replay-first-number-tells part kept m l t 
 
 -- ---- translate and quote: 0 against 1, 20 to 25, and 26 of translate alone
 
-decoded-row : (p : Part) (s pl : ℕ) (d : Decoded) → InRow (22 ∷ 23 ∷ 24 ∷ 25 ∷ 0 ∷ []) (decodedNumber p s pl d)
-unfolding InRow stepNumber
-decoded-row p s pl Bad = inl refl
-decoded-row p s pl (Good w) =
-    inr (check (λ n. n) _ 23 _ (24 ∷ 25 ∷ 0 ∷ []) (check (λ n. n) _ 24 _ (25 ∷ 0 ∷ []) (check (λ n. n) _ 25 0 (0 ∷ []) no-refusal)))
+shield-row : (i : ℕ) (f : Found) → InRow (25 ∷ 0 ∷ []) (shielded i f .number)
+unfolding InRow
+shield-row i (At x) = inl refl
+shield-row i Nothing = inr (inl refl)
+
+decoded-row : (p : Part) (s pl i : ℕ) (d : Decoded) → InRow (22 ∷ 23 ∷ 24 ∷ 25 ∷ 0 ∷ []) (decodedRefusal p s pl i d .number)
+unfolding InRow stepRefusal
+decoded-row p s pl i Bad = inl refl
+decoded-row p s pl i (Good w) =
+    inr
+    (check num (outside p w) (refusalAt 23 i) _ (24 ∷ 25 ∷ 0 ∷ [])
+    (check num (beyond pl w) (refusalAt 24 i) (shielded i (firstShielded p s w)) (25 ∷ 0 ∷ []) (shield-row i (firstShielded p s w))))
 
 steps-row : (p : Part) (s pl : ℕ) (job : List ℕ) (i n : ℕ) → InRow (22 ∷ 23 ∷ 24 ∷ 25 ∷ 0 ∷ []) (stepsRefusal p s pl job i n .number)
 unfolding stepsRefusal _orElse_
 steps-row p s pl job i zero = later (22 ∷ 23 ∷ 24 ∷ 25 ∷ []) (0 ∷ []) 0 no-refusal
 steps-row p s pl job i (suc n) =
     by-choice (λ (z : Refusal). InRow (22 ∷ 23 ∷ 24 ∷ 25 ∷ 0 ∷ []) (z .number)) _ _ _
-    (steps-row p (settingAfter s (stepAt job i)) pl job (suc i) n) (decoded-row p s pl (stepAt job i))
+    (steps-row p (settingAfter s (stepAt job i)) pl job (suc i) n) (decoded-row p s pl i (stepAt job i))
 
 job-row : (part s : ℕ) (job : List ℕ) (pl : ℕ) → InRow (1 ∷ 20 ∷ 21 ∷ 22 ∷ 23 ∷ 24 ∷ 25 ∷ 0 ∷ []) (jobRefusal part s job pl .number)
 unfolding jobRefusal

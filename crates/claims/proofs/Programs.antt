@@ -23,7 +23,8 @@ use Rattle.rules.specs.Cells.{cell, programmed}
 use Rattle.rules.specs.Verdict.{addressOf, verdictOf}
 use Rattle.rules.specs.Transaction.{turnOf}
 use Rattle.rules.specs.Transact.{isHigh, transactOf}
-use Rattle.laws.proofs.Sound.{Sound, reach-end, part-sound}
+use Rattle.laws.proofs.Sound.{Sound, reach-end}
+use Rattle.laws.proofs.Parts.{part-sound}
 use Rattle.claims.proofs.Reach.{In, patched-either, written, address-inside, outside-reach}
 use Rattle.claims.proofs.Entry.{FirstSays, by-array, carried-as}
 

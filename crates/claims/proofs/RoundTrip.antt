@@ -1,6 +1,6 @@
 -- The registers taken apart and put together again: nothing of a well-formed word is lost, and nothing is added.
 use mathlib.Core.Path.{_≡_, refl, sym, ap, _∙_}
-use mathlib.Core.Bool.{Bool, true, false, _&&_}
+use mathlib.Core.Bool.{Bool, true, false, _&&_, _||_}
 use Prim.Native.Nat.{ℕ, _+_, _*_, _/_, _%_, _≤_, _<_}
 use native.Mathlib.Omega.{arith}
 use native.Mathlib.Nat.{add-comm, mod-eq-of-lt, div-add-mod', div-div-eq-div-mul}
@@ -11,7 +11,11 @@ use Rattle.lists.specs.Choice.{_=?_, _<?_, _≤?_}
 use Rattle.lists.proofs.Choice.{both-true}
 use Rattle.rules.specs.declared.Kept.{Kept}
 use Rattle.rules.specs.declared.Regs.{Regs}
-use Rattle.rules.specs.Status.{bit0, bitAt, flag, implies, regsOf, statusOf, keptOf, wellFormed}
+use Rattle.rules.specs.Part.{Part}
+use Rattle.rules.specs.Status.{bit0, bitAt, flag, regsOf, statusOf, keptOf}
+use Rattle.rules.specs.WellFormed.{implies, wordFormed, awakeFormed, wellFormed}
+use Rattle.laws.proofs.Flags.{flag-small}
+use Rattle.laws.proofs.Steady.{Steady}
 
 -- ---- bits
 
@@ -45,39 +49,39 @@ bits-make w h =
 -- ---- the word from the registers
 
 -- each part of "well formed", as facts
-pub record FormedWord (end : ℕ) (k : Kept) : Type 0 where
-  pub small : k .status < end
+pub record FormedWord (p : Part) (k : Kept) : Type 0 where
+  pub small : k .status < p .statusEnd
   pub flagged : k .awake ≤ 1
   pub busy-wel : implies (bit0 (k .status)) (bitAt 2 (k .status)) ≡ true
   pub busy-awake : implies (bit0 (k .status)) (k .awake =? 1) ≡ true
+  pub sleeper : (p .sleeps || (k .awake =? 1)) ≡ true
 
-pub formed-word : (end : ℕ) (k : Kept) → wellFormed end k ≡ true → FormedWord end k
-unfolding wellFormed
-formed-word end k e =
-    let s : Bool = k .status <? end in
+pub formed-word : (p : Part) (k : Kept) → wellFormed p k ≡ true → FormedWord p k
+unfolding wellFormed wordFormed awakeFormed
+formed-word p k e =
+    let s : Bool = k .status <? p .statusEnd in
     let t : Bool = k .awake ≤? 1 in
     let u : Bool = implies (bit0 (k .status)) (bitAt 2 (k .status)) in
-    let a = both-true (s && t && u) _ e in
-    let b = both-true (s && t) u (a .0) in
-    let c = both-true s t (b .0) in
-    record { small = ltb-true _ _ (c .0); flagged = leb-true _ _ (c .1); busy-wel = b .1; busy-awake = a .1 }
+    let v : Bool = implies (bit0 (k .status)) (k .awake =? 1) in
+    let a = both-true (s && u) _ e in
+    let b = both-true s u (a .0) in
+    let c = both-true (t && v) _ (a .1) in
+    let d = both-true t v (c .0) in
+    record { small = ltb-true _ _ (b .0); flagged = leb-true _ _ (d .0); busy-wel = b .1; busy-awake = d .1; sleeper = c .1 }
 
-pub kept-back : (k : Kept) → wellFormed 1024 k ≡ true → keptOf (regsOf k) ≡ k
+pub kept-back : (p : Part) → Steady p → (k : Kept) → wellFormed p k ≡ true → keptOf (regsOf k) ≡ k
 unfolding keptOf regsOf statusOf
-kept-back k e =
-    let h = formed-word 1024 k e in
+kept-back p steady k e =
+    let h = formed-word p k e in
     let w = k .status in
+    let small : w < 1024 = omega (arith, h .small, steady .ends) in
     let s : statusOf (regsOf k) ≡ w =
     rw (bit-back (w % 2) (omega arith), bit-back (w / 2 % 2) (omega arith))
-    (rw (bit-back (w / 128 % 2) (omega arith), bit-back (w / 256 % 2) (omega arith), bit-back (w / 512 % 2) (omega arith)) (bits-make w (h .small))) in
+    (rw (bit-back (w / 128 % 2) (omega arith), bit-back (w / 256 % 2) (omega arith), bit-back (w / 512 % 2) (omega arith)) (bits-make w small)) in
     let a = bit-back (k .awake) (omega arith) in
     λ i. record { status = s i; awake = a i }
 
 -- ---- the registers from the word
-
-pub flag-small : (t : Bool) → flag t < 2
-flag-small true = omega arith
-flag-small false = omega arith
 
 -- a test of a bit that is t's
 flag-back : (t : Bool) (n : ℕ) → n ≡ flag t → (n =? 1) ≡ t

@@ -21,7 +21,8 @@ use Rattle.rules.specs.Writes.{reachStart, reachLength, arrayWritten}
 use Rattle.rules.specs.Verdict.{addressOf, verdictOf}
 use Rattle.rules.specs.Transaction.{arrayAfter, turnOf}
 use Rattle.rules.specs.Transact.{isHigh, transactOf}
-use Rattle.laws.proofs.Sound.{Sound, part-sound}
+use Rattle.laws.proofs.Sound.{Sound}
+use Rattle.laws.proofs.Parts.{part-sound}
 use Rattle.laws.proofs.Protection.{none-protected}
 use Rattle.laws.proofs.CarriedOut.{by-write, carried-passed}
 use Rattle.claims.proofs.Reach.{In, address-inside, outside-reach, written-length}

@@ -1,40 +1,45 @@
--- The table of commands decides: what a row says of its code is what the chip goes by, row by row for the FM25Q16.
-use mathlib.Core.Path.{_≡_, refl}
+-- The table of commands decides: what a row says of its code is what the chip goes by.
+use mathlib.Core.Path.{_≡_, refl, ap}
 use mathlib.Core.Bool.{true, _&&_}
 use mathlib.Core.Logic.{_⊎_, ⊎-map, _↔_}
+use mathlib.Core.List.{List, [], _∷_}
 use Prim.Native.Nat.{ℕ, _≤_}
 use borrow.Author.Tests.{eqb-true, eq-eqb, leb-true, le-leb}
-use Rattle.lists.specs.Choice.{if_then_else_, _=?_}
-use Rattle.lists.proofs.Choice.{both-true}
+use Rattle.lists.specs.Choice.{_=?_}
+use Rattle.lists.proofs.Choice.{both-true, either-true}
 use Rattle.rules.specs.declared.Command.the-variants.{Known, Unknown}
-use Rattle.rules.specs.Part.{Part, Bytes, exactly, either, orMore, Leftover, noBits, anyBits, Row, takes, leaves, commandIn, shapedIn, commandOf, shaped}
-use Rattle.rules.specs.Fm25q16.{fmCommands, fmHeardAsleep, fmHeardBusy, fm25q16}
-use Rattle.rules.specs.Parts.{partOf}
-use Rattle.laws.proofs.Rows.{Each, Unlisted, end, _⊳_, no-command}
-use Rattle.claims.proofs.Choices.{either-true}
+use Rattle.rules.specs.declared.Bytes.{Bytes}
+use Rattle.rules.specs.declared.Bytes.the-variants.{Exactly, Either, OrMore}
+use Rattle.rules.specs.declared.Leftover.{Leftover}
+use Rattle.rules.specs.declared.Leftover.the-variants.{NoBits, AnyBits}
+use Rattle.rules.specs.declared.Row.{Row}
+use Rattle.rules.specs.declared.Listed.the-variants.{Line}
+use Rattle.rules.specs.Part.{Part, takes, leaves, rowOf, commandBy, commandOf, shaped}
+use Rattle.laws.proofs.Rows.{Each, Unlisted, end, _⊳_, no-row, rows-found}
+use Rattle.laws.proofs.Sound.{Sound}
 
 -- n bytes are right for a row, x leftover bits are
 abbrev pub Takes : Bytes → ℕ → Type 0
-Takes (exactly k) n = n ≡ k
-Takes (either j k) n = (n ≡ j) ⊎ (n ≡ k)
-Takes (orMore k) n = k ≤ n
+Takes (Exactly k) n = n ≡ k
+Takes (Either j k) n = (n ≡ j) ⊎ (n ≡ k)
+Takes (OrMore k) n = k ≤ n
 
 abbrev pub Leaves : Leftover → ℕ → Type 0
-Leaves noBits x = x ≡ 0
-Leaves anyBits x = Unit {0}
+Leaves NoBits x = x ≡ 0
+Leaves AnyBits x = Unit {0}
 
 takes-is : (b : Bytes) (n : ℕ) → takes b n ≡ true ↔ Takes b n
 unfolding takes ⊎-map
-takes-is (exactly k) n = (eqb-true n k, eq-eqb n k)
-takes-is (either j k) n =
+takes-is (Exactly k) n = (eqb-true n k, eq-eqb n k)
+takes-is (Either j k) n =
     let h = either-true (n =? j) (n =? k) in
     (λ e. ⊎-map (eqb-true n j) (eqb-true n k) (h .0 e), λ e. h .1 (⊎-map (eq-eqb n j) (eq-eqb n k) e))
-takes-is (orMore k) n = (leb-true k n, le-leb k n)
+takes-is (OrMore k) n = (leb-true k n, le-leb k n)
 
 leaves-is : (x : Leftover) (n : ℕ) → leaves x n ≡ true ↔ Leaves x n
 unfolding leaves
-leaves-is noBits n = (eqb-true n 0, eq-eqb n 0)
-leaves-is anyBits n = (λ e. tt, λ e. refl)
+leaves-is NoBits n = (eqb-true n 0, eq-eqb n 0)
+leaves-is AnyBits n = (λ e. tt, λ e. refl)
 
 -- a row's rule
 rule : (b : Bytes) (y : Leftover) (n x : ℕ) → (takes b n && leaves y x) ≡ true ↔ Takes b n × Leaves y x
@@ -44,45 +49,24 @@ rule b y n x = (
 )
 
 -- the code of a row says the row's kind, and its byte count and leftover bits are right where the row has them so
-abbrev pub Decides : ℕ → Row → Type 0
-Decides part w =
-    (commandOf (partOf part) (w .code) ≡ Known (w .kind))
-    × ((n x : ℕ) → shaped (partOf part) (w .code) n x ≡ true ↔ Takes (w .bytes) n × Leaves (w .leftover) x)
+abbrev pub Decides : Part → Row → Type 0
+Decides p w =
+    (commandOf p (w .code) ≡ Known (w .kind))
+    × ((n x : ℕ) → shaped p (w .code) n x ≡ true ↔ Takes (w .bytes) n × Leaves (w .leftover) x)
 
-pub rows-decide : Each (Decides 1) fmCommands
-unfolding partOf fm25q16 commandOf shaped commandIn shapedIn fmCommands if_then_else_
-rows-decide =
-    (refl, rule (exactly 1) noBits)
-    ⊳ (refl, rule (exactly 1) noBits)
-    ⊳ (refl, rule (orMore 1) anyBits)
-    ⊳ (refl, rule (orMore 1) anyBits)
-    ⊳ (refl, rule (either 2 3) noBits)
-    ⊳ (refl, rule (orMore 4) anyBits)
-    ⊳ (refl, rule (orMore 5) anyBits)
-    ⊳ (refl, rule (orMore 5) noBits)
-    ⊳ (refl, rule (exactly 4) noBits)
-    ⊳ (refl, rule (exactly 4) noBits)
-    ⊳ (refl, rule (exactly 4) noBits)
-    ⊳ (refl, rule (exactly 1) noBits)
-    ⊳ (refl, rule (exactly 1) noBits)
-    ⊳ (refl, rule (exactly 1) noBits)
-    ⊳ (refl, rule (orMore 1) anyBits)
-    ⊳ (refl, rule (orMore 4) anyBits)
-    ⊳ (refl, rule (orMore 1) anyBits)
-    ⊳ end
+found-decides : (p : Part) (w : Row) → rowOf p (w .code) ≡ Line w → Decides p w
+found-decides p w e = (ap commandBy e, λ n x. rw e (rule (w .bytes) (w .leftover) n x))
+
+all-decide : (p : Part) (ws : List Row) → Each (λ w. rowOf p (w .code) ≡ Line w) ws → Each (Decides p) ws
+all-decide p [] end = end
+all-decide p (w ∷ ws) (h ⊳ hs) = found-decides p w h ⊳ all-decide p ws hs
+
+-- every row of every sound chip
+pub rows-decide : (p : Part) → Sound p → Each (Decides p) (p .commands)
+unfolding rowOf
+rows-decide p sound = all-decide p (p .commands) (rows-found (p .commands) (sound .distinct-codes))
 
 -- a code that no row has is unknown: 12
 pub unlisted-is-unknown : (p : Part) (op : ℕ) → Unlisted op (p .commands) → commandOf p op ≡ Unknown
-unfolding commandOf
-unlisted-is-unknown p op h = no-command op (p .commands) h
-
--- "asleep and not AB", "busy and neither 05 nor 35"
-pub heard-asleep : (op : ℕ) → partOf 1 .heardAsleep op ≡ true ↔ op ≡ 0xAB
-unfolding partOf fm25q16 fmHeardAsleep
-heard-asleep op = (eqb-true op 0xAB, eq-eqb op 0xAB)
-
-pub heard-busy : (op : ℕ) → partOf 1 .heardBusy op ≡ true ↔ (op ≡ 0x05) ⊎ (op ≡ 0x35)
-unfolding partOf fm25q16 fmHeardBusy ⊎-map
-heard-busy op =
-    let h = either-true (op =? 0x05) (op =? 0x35) in
-    (λ e. ⊎-map (eqb-true op 0x05) (eqb-true op 0x35) (h .0 e), λ e. h .1 (⊎-map (eq-eqb op 0x05) (eq-eqb op 0x35) e))
+unfolding rowOf
+unlisted-is-unknown p op h = ap commandBy (no-row op (p .commands) h)

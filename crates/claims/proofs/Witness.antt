@@ -11,16 +11,17 @@ use Rattle.lists.specs.Places.{tabulateFrom, tabulate, patched, firstIn, everyI
 use Rattle.rules.specs.declared.EraseUnit.the-variants.{Sector}
 use Rattle.rules.specs.declared.Step.{Step}
 use Rattle.rules.specs.declared.Step.the-variants.{EraseAt, Lay, Guard}
-use Rattle.rules.specs.Fm25q16.{fmSec0, fmSec1, fmArea, fmLo, fmHi, fm25q16}
+use Rattle.rules.specs.Fm25q16.{fmErases, fmSec0, fmSec1, fmArea, fmLo, fmHi, fm25q16}
 use Rattle.rules.specs.Parts.{isPart, partOf}
-use Rattle.rules.specs.Protection.{isProtected, firstProtected, someProtected}
-use Rattle.rules.specs.Status.{regsOf, statusOf, keptOf, wellFormed}
+use Rattle.rules.specs.Protection.{isProtected, firstProtected}
+use Rattle.rules.specs.Status.{regsOf, statusOf, keptOf}
+use Rattle.rules.specs.WellFormed.{wordFormed, awakeFormed, wellFormed}
 use Rattle.rules.specs.Cells.{erased}
 use Rattle.rules.specs.Counts.{room}
 use Rattle.rules.specs.Refusals.{_orElse_}
 use Rattle.rules.specs.Replay.{ReplaySeen, replayOf}
 use Rattle.rules.specs.Job.{unitBy, decodedErase, decodedLay, decodedGuard, decodedAt, stepsFrom, stepsOf, laid, arrayMeant, allRegsMeant}
-use Rattle.rules.specs.JobRefusals.{unfit, shielded, stepNumber, stepsRefusal, jobRefusal}
+use Rattle.rules.specs.JobRefusals.{unfit, stepRefusal, stepsRefusal, jobRefusal}
 use Rattle.rules.specs.Bill.{billOf}
 use Rattle.rules.specs.Translate.{tapeOf, TranslateSeen, translateOf, BillTold}
 use Rattle.rules.specs.Ready.{Ready, Roomy}
@@ -41,7 +42,7 @@ unfolding job stepsFrom decodedAt decodedErase decodedLay decodedGuard unitBy ev
 steps-are = refl
 
 unrefused : jobRefusal 1 0 job (length payload) .number ≡ 0
-unfolding job jobRefusal isPart unfit stepsRefusal _orElse_ stepNumber shielded someProtected firstProtected firstIn isProtected partOf fm25q16 fmLo fmHi fmArea fmSec0 fmSec1 decodedAt decodedErase decodedLay decodedGuard unitBy everyIn if_then_else_
+unfolding job jobRefusal isPart unfit stepsRefusal _orElse_ stepRefusal firstProtected firstIn isProtected partOf fm25q16 fmErases fmLo fmHi fmArea fmSec0 fmSec1 decodedAt decodedErase decodedLay decodedGuard unitBy everyIn if_then_else_
 unrefused = refl
 
 bill-is : billOf (stepsOf job) ≡ record { programs = 2; erases = 1; «register_writes» = 1; length = 3168 }
@@ -63,7 +64,7 @@ unfolding partOf fm25q16
 long = blank-long 2097152
 
 pub ready : Ready (partOf 1) 0 kept
-unfolding wellFormed regsOf partOf fm25q16
+unfolding wellFormed wordFormed awakeFormed regsOf partOf fm25q16
 ready = record { formed = refl; awake = refl; idle = refl; unlocked = refl; at-setting = refl }
 
 pub roomy : Roomy meter (tapeWritten 1 0 job payload buffer)
@@ -88,8 +89,8 @@ meter-after = ap (λ (v : ReplaySeen). v .answer .meter) (job-means .played) ∙
 
 -- the registers: setting 17, which is 44 hex in the word, and all else 0
 pub regs-after : played .answer .regs ≡ record { status = 0x0044; awake = 1 }
-unfolding allRegsMeant keptOf regsOf statusOf
-regs-after = ap (λ (v : ReplaySeen). v .answer .regs) (job-means .played) ∙ ap (λ (ws : List Step). keptOf (allRegsMeant (regsOf kept) ws)) steps-are
+unfolding allRegsMeant keptOf regsOf statusOf partOf fm25q16 if_then_else_
+regs-after = ap (λ (v : ReplaySeen). v .answer .regs) (job-means .played) ∙ ap (λ (ws : List Step). keptOf (allRegsMeant (partOf 1) (regsOf kept) ws)) steps-are
 
 -- the array, which held 00, at these places: the sector from 001000 on is FF, but for the four bytes laid; its neighbours stay
 abbrev pub places : List ℕ

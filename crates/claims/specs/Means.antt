@@ -1,6 +1,5 @@
 -- What demand 3 says of a job and of the tape that `translate` wrote for it.
 use mathlib.Core.Path.{_≡_}
-use mathlib.Core.Bool.{true}
 use mathlib.Core.List.{List}
 use Prim.Native.Nat.{ℕ}
 use lib.ListN.{length, take}
@@ -11,7 +10,7 @@ use Rattle.rules.specs.Parts.{partOf}
 use Rattle.rules.specs.Status.{regsOf, keptOf}
 use Rattle.rules.specs.Tape.{recsOf}
 use Rattle.rules.specs.Play.{state}
-use Rattle.rules.specs.Replay.{replaySeen, replayOf}
+use Rattle.rules.specs.Replay.{playedTold, replaySeen, replayOf}
 use Rattle.rules.specs.Job.{stepsOf, arrayMeant, allRegsMeant}
 use Rattle.rules.specs.Translate.{translateOf, quoteOf}
 use Rattle.demand.specs.Raised.{raised}
@@ -32,14 +31,7 @@ pub record Means (part s : ℕ) (job payload t : List ℕ) (kept : Kept) (m : Me
   pub played :
       replayOf part kept m l t
       ≡ replaySeen
-      (record {
-        served = true;
-        number = 0;
-        code = 0;
-        index = 0;
-        regs = keptOf (allRegsMeant (regsOf kept) (stepsOf job));
-        meter = raised m (figures part s job payload);
-      })
+      (playedTold (keptOf (allRegsMeant (partOf part) (regsOf kept) (stepsOf job))) (raised m (figures part s job payload)))
       (arrayMeant (partOf part) payload l (stepsOf job))
   pub none-ignored : ignoredIn (partOf part) (recsOf t) (state (regsOf kept) l m) ≡ 0
   pub long : length t ≡ figures part s job payload .length

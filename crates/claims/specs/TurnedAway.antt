@@ -45,11 +45,12 @@ pub data Says (job : List ℕ) (a : ℕ) : Step → Type 0 where
 
 -- ---- what is wrong with a step
 
--- "address past the chip, whole-chip erase not at 0, length 0 or over 4,096, or end past the chip"
+-- "address past the chip, whole-chip erase not at 0, length 0 or over 4,096, or end past the chip"; and a unit that the chip
+-- cannot erase, or a setting that it cannot hold, of which the FM25Q16 has none
 abbrev pub Outside : Part → Step → Type 0
-Outside p (EraseAt u a) = (p .size ≤ a) ⊎ ((u ≡ Chip) × (a ≡ 0 → ⊥))
+Outside p (EraseAt u a) = (p .erases u ≡ false) ⊎ (p .size ≤ a) ⊎ ((u ≡ Chip) × (a ≡ 0 → ⊥))
 Outside p (Lay s) = (p .size ≤ s .address) ⊎ (s .length ≡ 0) ⊎ (4096 < s .length) ⊎ (p .size < s .address + s .length)
-Outside p (Guard g) = ⊥
+Outside p (Guard g) = p .settingLimit < g
 
 -- "payload span outside the payload"
 abbrev pub Beyond : ℕ → Step → Type 0
@@ -91,10 +92,10 @@ pub data JobTurnedAway (part s : ℕ) (job : List ℕ) (payloadLength : ℕ) : �
   -- "part number not 1"
   for-1 : isPart part ≡ false → JobTurnedAway part s job payloadLength 1 0
   for-20 : isPart part ≡ true → Unfit job payloadLength → JobTurnedAway part s job payloadLength 20 0
-  -- "start setting over 31"
-  for-21 : isPart part ≡ true → (Unfit job payloadLength → ⊥) → 31 < s → JobTurnedAway part s job payloadLength 21 0
+  -- "start setting over 31", the highest that the chip holds
+  for-21 : isPart part ≡ true → (Unfit job payloadLength → ⊥) → partOf part .settingLimit < s → JobTurnedAway part s job payloadLength 21 0
   -- 22 to 25: step i is the first that is wrong
-  for-step : isPart part ≡ true → (Unfit job payloadLength → ⊥) → s ≤ 31
+  for-step : isPart part ≡ true → (Unfit job payloadLength → ⊥) → s ≤ partOf part .settingLimit
       → (n i : ℕ) → i < length job / 16
       → ((j : ℕ) → j < i → Right (partOf part) (settingAt job s j) payloadLength job j)
       → Wrong (partOf part) (settingAt job s i) payloadLength job i n

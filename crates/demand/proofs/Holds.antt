@@ -1,4 +1,4 @@
--- A tape holds the records of an accepted job: each fits, and together they are as long as the bill says.
+-- A tape holds the records of a job: each fits, and together they are as long as the bill says.
 use mathlib.Core.Path.{_≡_, refl}
 use mathlib.Core.List.{List, [], _∷_}
 use Prim.Native.Nat.{ℕ, zero, suc, _+_, _*_, _≤_}
@@ -12,13 +12,11 @@ use Rattle.rules.specs.declared.Step.the-variants.{EraseAt, Lay, Guard}
 use Rattle.rules.specs.Kinds.{codeOf}
 use Rattle.rules.specs.Part.{Part}
 use Rattle.rules.specs.Tape.{recordLength, sentLimit}
-use Rattle.rules.specs.Job.{settingLimit, layBytes, settingMeant}
+use Rattle.rules.specs.Job.{layBytes}
 use Rattle.rules.specs.Records.{threeRecs, eraseBytes, leftInPage, pageRecs, stepRecs, jobRecs}
 use Rattle.rules.specs.Bill.{pagesTouched, stepBill, billOf}
 use Rattle.laws.proofs.RecordOk.{RecsOk, no-recs, next, transaction-ok, finish-ok, ok-append}
-use Rattle.demand.proofs.Tapeable.{Tapeable}
-use Rattle.demand.proofs.Accept.{JobOk}
-use Rattle.demand.proofs.Accept as J
+use Rattle.laws.proofs.Tapeable.{Tapeable}
 
 -- ---- each record fits
 
@@ -36,15 +34,15 @@ erase-short Block32 a = omega arith
 erase-short Block64 a = omega arith
 erase-short Chip a = omega arith
 
-pub step-ok : (p : Part) → Tapeable p → (payload : List ℕ) (w : Step) → settingMeant 0 w ≤ settingLimit → RecsOk (stepRecs p payload w)
-step-ok p law payload (EraseAt u a) k = three-ok (eraseBytes u a) (erase-short u a)
-step-ok p law payload (Lay s) k = pages-ok (pagesTouched (s .address) (s .length)) (s .address) (layBytes payload s)
-step-ok p law payload (Guard g) k = three-ok _ (law .guard-short g k)
+pub step-ok : (p : Part) → Tapeable p → (payload : List ℕ) (w : Step) → RecsOk (stepRecs p payload w)
+step-ok p law payload (EraseAt u a) = three-ok (eraseBytes u a) (erase-short u a)
+step-ok p law payload (Lay s) = pages-ok (pagesTouched (s .address) (s .length)) (s .address) (layBytes payload s)
+step-ok p law payload (Guard g) = let h = law .guard-short g in three-ok _ (omega arith)
 
-pub recs-ok : (p : Part) → Tapeable p → (payload : List ℕ) (s n : ℕ) (ws : List Step) → JobOk p s n ws → RecsOk (jobRecs p payload ws)
+pub recs-ok : (p : Part) → Tapeable p → (payload : List ℕ) (ws : List Step) → RecsOk (jobRecs p payload ws)
 unfolding jobRecs
-recs-ok p law payload s n [] J.no-steps = no-recs
-recs-ok p law payload s n (w ∷ ws) (J.next k ks) = ok-append (step-ok p law payload w (k .known)) (recs-ok p law payload _ n ws ks)
+recs-ok p law payload [] = no-recs
+recs-ok p law payload (w ∷ ws) = ok-append (step-ok p law payload w) (recs-ok p law payload ws)
 
 -- ---- the length of the tape
 

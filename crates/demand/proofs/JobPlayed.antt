@@ -15,7 +15,7 @@ use Rattle.laws.proofs.JobPassed.{job-passed}
 use Rattle.laws.proofs.RecordOk.{RecsOk}
 use Rattle.demand.specs.Ignored.{ignoredIn}
 use Rattle.demand.specs.JobRecs.{recsOfJob}
-use Rattle.demand.proofs.Tapeable.{part-tapeable}
+use Rattle.laws.proofs.Parts.{part-tapeable}
 use Rattle.demand.proofs.Fit.{Fit}
 use Rattle.demand.proofs.Accept.{JobOk, job-ok}
 use Rattle.demand.proofs.Demand3.{afterJob, demand3}
@@ -46,4 +46,4 @@ module _ (part s : ℕ) (job payload : List ℕ) (ok : jobRefusal part s job (le
     job-none-ignored = none-ignored (partOf part) (part-tapeable part) payload (stepsOf job) (state (regsOf kept) l m) fit steps-ok
 
   pub job-recs-ok : RecsOk (recsOfJob part job payload)
-  job-recs-ok = recs-ok (partOf part) (part-tapeable part) payload s (length payload) (stepsOf job) (accepted-ok part s job (length payload) ok)
+  job-recs-ok = recs-ok (partOf part) (part-tapeable part) payload (stepsOf job)

@@ -1,6 +1,5 @@
 pub mod Patches
 pub mod Lay
-pub mod Tapeable
 pub mod Fit
 pub mod Bare
 pub mod Three

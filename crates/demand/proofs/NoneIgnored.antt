@@ -21,7 +21,7 @@ use Rattle.rules.specs.Tape.{Rec, transaction, finish, powerCycle}
 use Rattle.rules.specs.Play.{State, playRec, play}
 use Rattle.rules.specs.Records.{jobRecs}
 use Rattle.demand.specs.Ignored.{ignoredBy, ignoredAt, ignoredIn}
-use Rattle.demand.proofs.Tapeable.{Tapeable}
+use Rattle.laws.proofs.Tapeable.{Tapeable}
 use Rattle.demand.proofs.Fit.{Fit}
 use Rattle.demand.proofs.Accept.{JobOk}
 use Rattle.demand.proofs.Demand3.{demand3}

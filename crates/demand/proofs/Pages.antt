@@ -22,7 +22,7 @@ use Rattle.rules.specs.Records.{threeRecs, addressBytes, leftInPage, pageRecs}
 use Rattle.rules.specs.Bill.{pagesTouched, tapeLength}
 use Rattle.demand.specs.Raised.{raised}
 use Rattle.demand.proofs.Lay.{program-is-lay, laid-length, lay-lay}
-use Rattle.demand.proofs.Tapeable.{Tapeable}
+use Rattle.laws.proofs.Tapeable.{Tapeable}
 use Rattle.demand.proofs.Fit.{Fit, calm-wel}
 use Rattle.demand.proofs.Three.{Says, settled-plain, three-play}
 use Rattle.demand.proofs.Bare.{Bare, bare-part, bare-page}
@@ -61,7 +61,7 @@ pages-more n a bs es = refl
 
 module _ (p : Part) (law : Tapeable p) where
   program-says : (a : ℕ) (bs : List ℕ) → 0 < length bs → Says p (Writes Program) (programBytes a bs)
-  program-says a bs not-empty = record { not-empty = omega arith; code = refl; shape = law .program-shaped (length (programBytes a bs)) (omega arith) }
+  program-says a bs not-empty = record { not-empty = omega arith; code = refl; offers = law .programs (length (programBytes a bs)) (omega arith) }
 
   page-play : (s : State) → Fit p s → (a : ℕ) (bs : List ℕ) → Layable p s a (length bs) → a % page + length bs ≤ page → (es : List Rec)
       → play p (threeRecs (programBytes a bs) ++ es) s ≡ play p es (afterLay s a bs 1)

@@ -14,7 +14,7 @@ use Rattle.rules.specs.declared.Kind.the-variants.{WriteEnable, Writes}
 use Rattle.rules.specs.declared.Regs.{Regs}
 use Rattle.rules.specs.declared.Verdict.the-variants.{CarriedOut}
 use Rattle.rules.specs.Kinds.{codeOf, ofWrite, ofKnown}
-use Rattle.rules.specs.Part.{Part, shaped}
+use Rattle.rules.specs.Part.{Part}
 use Rattle.rules.specs.Status.{withWel, withBusy}
 use Rattle.rules.specs.Writes.{reachStart, reachLength, locked, lockedOut, regsWritten, arrayWritten}
 use Rattle.rules.specs.Verdict.{addressOf, unheardAsleep, unheardBusy, verdictOf}
@@ -27,14 +27,14 @@ use Rattle.rules.specs.Tape.{Rec}
 use Rattle.rules.specs.Play.{State, state, playRec, play}
 use Rattle.rules.specs.Records.{threeRecs}
 use Rattle.demand.proofs.Bare.{Bare}
-use Rattle.demand.proofs.Tapeable.{Tapeable}
+use Rattle.laws.proofs.Tapeable.{Offers, Tapeable}
 use Rattle.demand.proofs.Fit.{Calm, calm-wel}
 
 -- the bytes b say a kind to the chip, in the right number and with no leftover bits
 pub record Says (p : Part) (k : Kind) (b : List ℕ) : Type 0 where
   pub not-empty : 0 < length b
   pub code : getD b 0 0 ≡ codeOf k
-  pub shape : shaped p (codeOf k) (length b) 0 ≡ true
+  pub offers : Offers p k (length b)
 
 -- "a tape holds /WP high"
 unlocked-out : (r : Regs) → r .srp1 ≡ false → (w : Write) → lockedOut w r true ≡ false
@@ -68,11 +68,11 @@ module _ (p : Part) (law : Tapeable p) where
   heard r c k b s =
       let not-empty = s .not-empty in
       verdict-judged p r b 0 true
-      ∙ rw (ne-eqb (length b) 0 (λ e. omega arith), s .code, law .sound .codes k, c .awake, c .idle, s .shape)
+      ∙ rw (ne-eqb (length b) 0 (λ e. omega arith), s .code, s .offers .known, c .awake, c .idle, s .offers .shape)
 
   enable-done : (r : Regs) → Calm r → verdictOf p r (codeOf WriteEnable ∷ []) 0 true ≡ CarriedOut WriteEnable
   unfolding ofWrite
-  enable-done r c = heard r c WriteEnable _ (record { not-empty = omega arith; code = refl; shape = law .enable-shaped })
+  enable-done r c = heard r c WriteEnable _ (record { not-empty = omega arith; code = refl; offers = law .enables })
 
   -- with WEL 1, unlocked and nothing protected: "else 0, carried out"
   write-done : (r : Regs) → Calm r → (w : Write) (b : List ℕ) → Says p (Writes w) b → Bare p (r .setting) (reachStart w (addressOf p b)) (reachLength p w)

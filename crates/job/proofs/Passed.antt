@@ -19,8 +19,9 @@ use Rattle.rules.specs.Parts.{partOf}
 use Rattle.rules.specs.Job.{stepLength, stepAt, stepCount}
 use Rattle.rules.specs.JobRefusals.{jobLimit, payloadLimit, unfit, stepsRefusal, jobRefusal}
 use Rattle.laws.proofs.Inside.{lay-inside}
-use Rattle.laws.proofs.JobPassed.{StepPassed, steps-next, job-passed}
-use Rattle.laws.proofs.Sound.{part-sound, size-small}
+use Rattle.laws.proofs.JobPassed.{StepOk, StepPassed, steps-next, job-passed}
+use Rattle.laws.proofs.Sound.{Sound, size-small}
+use Rattle.laws.proofs.Parts.{part-sound}
 use Rattle.job.specs.Carried.{settingAt}
 use Rattle.job.specs.Counted.{Billable, Counted}
 
@@ -60,20 +61,22 @@ unfolding settingAt
 each-passed part s job pl e i h = each (partOf part) pl job s 0 (stepCount job) (job-passed part s job pl e .unrefused) i (omega arith) (omega arith)
 
 -- what 23 lets pass lies where three address bytes reach, so no sum of a bill wraps
-billable : (part s pl : ℕ) (d : Decoded) (w : Step) → StepPassed (partOf part) s pl d → d ≡ Good w → Billable w
-billable part s pl d w h e =
-    let p = partOf part in
-    let m = size-small p (part-sound part) in
+pub ok-billable : (p : Part) → Sound p → (s pl : ℕ) (w : Step) → StepOk p s pl w → Billable w
+ok-billable p sound s pl w k =
+    let m = size-small p sound in
     record {
       lays = λ x q.
-          let g : h .step ≡ Lay x = cc (h .good) in
-          let i = lay-inside p x (rw g at (h .ok .inside)) in
+          let i = lay-inside p x (rw q at (k .inside)) in
           record { not-empty = i .not-empty; few = i .few; near = omega (arith, i .ends) };
     }
+
+-- bytes that say a step that passed say no other
+pub passed-ok : (p : Part) (s pl : ℕ) (d : Decoded) (w : Step) → StepPassed p s pl d → d ≡ Good w → StepOk p s pl w
+passed-ok p s pl d w h e = let v : h .step ≡ w = cc (h .good) in rw v at (h .ok)
 
 pub accepted-counted : (part s : ℕ) (job : List ℕ) (pl : ℕ) → jobRefusal part s job pl .number ≡ 0 → Counted job
 accepted-counted part s job pl e =
     record {
       few = fit job pl (job-passed part s job pl e .fits) .few;
-      each = λ i h w q. billable part (settingAt job s i) pl (stepAt job i) w (each-passed part s job pl e i h) q;
+      each = λ i h w q. ok-billable (partOf part) (part-sound part) _ pl w (passed-ok _ _ pl (stepAt job i) w (each-passed part s job pl e i h) q);
     }

@@ -1,7 +1,7 @@
 // What 16 bytes of a job say.
 use rules::Decoded;
 use rules::EraseUnit;
-use rules::SETTING_LIMIT;
+use rules::GUARD_LIMIT;
 use rules::STEP_LENGTH;
 use rules::Span;
 use rules::Step;
@@ -81,7 +81,7 @@ fn guard_at(job: &[u8], a: usize) -> Decoded
     ensures { λ d. ⌜ d ≡ decodedGuard (now (job .entry)) a ⌝ }
 {
     let setting = lists::byte_at(job, a + 1);
-    if SETTING_LIMIT < setting as u32 {
+    if GUARD_LIMIT < setting {
         return Decoded::Bad;
     }
     if !are_zeros(job, a + 4, 12) {

@@ -7,7 +7,6 @@ use rules::JOB_LIMIT;
 use rules::LAY_LIMIT;
 use rules::PAYLOAD_LIMIT;
 use rules::Refusal;
-use rules::SETTING_LIMIT;
 use rules::STEP_LENGTH;
 use rules::Span;
 use rules::Step;
@@ -16,9 +15,9 @@ ghost use mathlib.Core.Bool.{false};
 ghost use Prim.Native.Nat.{_≤_};
 ghost use Rattle.rules.specs.Parts.{partOf};
 ghost use Rattle.rules.specs.Job.{stepCount, settingMeant};
-ghost use Rattle.rules.specs.JobRefusals.{jobLimit, unfit, chipNotAtZero, outside, beyond, stepStart, stepReach, shielded, stepNumber, decodedNumber, settingAfter, stepsRefusal, jobRefusal};
+ghost use Rattle.rules.specs.JobRefusals.{jobLimit, unfit, chipNotAtZero, outside, beyond, stepStart, stepReach, firstShielded, shielded, stepRefusal, decodedRefusal, settingAfter, stepsRefusal, jobRefusal};
 
-// ---- 23: where a step lies
+// ---- 23: where a step lies, and what the chip lacks
 
 fn chip_not_at_zero(u: EraseUnit, a: usize) -> bool
     ensures { λ t. ⌜ t ≡ chipNotAtZero u a ⌝ }
@@ -34,6 +33,9 @@ fn chip_not_at_zero(u: EraseUnit, a: usize) -> bool
 fn erase_outside(part: u32, u: EraseUnit, a: usize) -> bool
     ensures { λ t. ⌜ t ≡ outside (partOf part) (Step.EraseAt u a) ⌝ }
 {
+    if !parts::erases(part, u) {
+        return true;
+    }
     if parts::size_of(part) <= a {
         return true;
     }
@@ -62,7 +64,7 @@ fn is_outside(part: u32, w: Step) -> bool
     match w {
         Step::EraseAt(u, a) => erase_outside(part, u, a),
         Step::Lay(s) => lay_outside(part, s),
-        Step::Guard(_) => false,
+        Step::Guard(g) => parts::setting_limit(part) < g,
     }
 }
 
@@ -110,41 +112,51 @@ fn step_reach(part: u32, w: Step) -> usize
     }
 }
 
-fn is_shielded(part: u32, s: u8, w: Step) -> bool
+// The first protected byte that a step touches, at setting s.
+fn first_shielded(part: u32, s: u8, w: Step) -> Found
     requires { ⌜ outside (partOf part) w ≡ false ⌝ }
-    ensures { λ t. ⌜ t ≡ shielded (partOf part) s w ⌝ }
+    ensures { λ r. ⌜ r ≡ firstShielded (partOf part) s w ⌝ }
 {
-    let found = judge::first_protected(part, s, step_start(w), step_reach(part, w));
+    judge::first_protected(part, s, step_start(w), step_reach(part, w))
+}
+
+fn shielded(i: usize, found: Found) -> Refusal
+    ensures { λ z. ⌜ z ≡ shielded i found ⌝ }
+{
     match found {
-        Found::At(_) => true,
-        Found::Nothing => false,
+        Found::At(_) => refusals::refusal_at(25, i),
+        Found::Nothing => refusals::refusal(0),
     }
 }
 
 // ---- one step
 
-// 23 to 25, 0 for none: at setting s.
-fn step_number(part: u32, s: u8, payload_length: usize, w: Step) -> u8
-    ensures { λ r. ⌜ r ≡ stepNumber (partOf part) s «payload_length» w ⌝ }
+// 23 to 25 for step i, at setting s.
+fn step_refusal(part: u32, s: u8, payload_length: usize, i: usize, w: Step) -> Refusal
+    ensures { λ z. ⌜ z ≡ stepRefusal (partOf part) s «payload_length» i w ⌝ }
 {
     if is_outside(part, w) {
-        return 23;
+        return refusals::refusal_at(23, i);
     }
     if is_beyond(payload_length, w) {
-        return 24;
+        return refusals::refusal_at(24, i);
     }
-    if is_shielded(part, s, w) {
-        return 25;
-    }
-    0
+    shielded(i, first_shielded(part, s, w))
 }
 
-fn decoded_number(part: u32, s: u8, payload_length: usize, d: Decoded) -> u8
-    ensures { λ r. ⌜ r ≡ decodedNumber (partOf part) s «payload_length» d ⌝ }
+// 22 to 25.
+pub fn decoded_refusal(
+    part: u32,
+    setting: u8,
+    payload_length: usize,
+    index: usize,
+    decoded: Decoded,
+) -> Refusal
+    ensures { λ z. ⌜ z ≡ decodedRefusal (partOf part) setting «payload_length» index decoded ⌝ }
 {
-    match d {
-        Decoded::Good(w) => step_number(part, s, payload_length, w),
-        Decoded::Bad => 22,
+    match decoded {
+        Decoded::Good(w) => step_refusal(part, setting, payload_length, index, w),
+        Decoded::Bad => refusals::refusal_at(22, index),
     }
 }
 
@@ -159,12 +171,12 @@ fn setting_meant(s: u8, w: Step) -> u8
 }
 
 // The setting that the next step's 25 goes by.
-fn setting_after(s: u8, d: Decoded) -> u8
-    ensures { λ r. ⌜ r ≡ settingAfter s d ⌝ }
+pub fn setting_after(setting: u8, decoded: Decoded) -> u8
+    ensures { λ r. ⌜ r ≡ settingAfter setting decoded ⌝ }
 {
-    match d {
-        Decoded::Good(w) => setting_meant(s, w),
-        Decoded::Bad => s,
+    match decoded {
+        Decoded::Good(w) => setting_meant(setting, w),
+        Decoded::Bad => setting,
     }
 }
 
@@ -193,9 +205,10 @@ fn steps_refusal(part: u32, s: u8, job: &[u8], payload_length: usize) -> Refusal
     let mut i = 0;
     while i < n {
         let d = decode::step_at(job, i);
-        let number = decoded_number(part, setting, payload_length, d);
+        let z = decoded_refusal(part, setting, payload_length, i, d);
+        let number = z.number;
         if number != 0 {
-            return refusals::refusal_at(number, i);
+            return z;
         }
         setting = setting_after(setting, d);
         i += 1;
@@ -213,7 +226,7 @@ pub fn job_refusal(part: u32, setting: u32, job: &[u8], payload_length: usize) -
     if is_unfit(job, payload_length) {
         return refusals::refusal(20);
     }
-    if SETTING_LIMIT < setting {
+    if (parts::setting_limit(part) as u32) < setting {
         return refusals::refusal(21);
     }
     steps_refusal(part, setting as u8, job, payload_length)

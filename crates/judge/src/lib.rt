@@ -166,21 +166,12 @@ fn judge_write(part: u32, r: Regs, high: bool, a: usize, k: Kind, w: Write) -> V
     by_protection(k, found)
 }
 
-// 13, or what the kind asks: n bytes and x leftover bits.
-fn judge_kind(
-    part: u32,
-    r: Regs,
-    n: usize,
-    x: u32,
-    high: bool,
-    op: u8,
-    a: usize,
-    k: Kind,
-) -> Verdict
+// 13, or what the kind asks: its bytes and bits fit, or they do not.
+fn judge_kind(part: u32, r: Regs, fit: bool, high: bool, a: usize, k: Kind) -> Verdict
     requires { ⌜ a < partOf part .size ⌝ }
-    ensures { λ v. ⌜ v ≡ kindVerdict (partOf part) r n x high op a k ⌝ }
+    ensures { λ v. ⌜ v ≡ kindVerdict (partOf part) r fit high a k ⌝ }
 {
-    if !parts::is_shaped(part, op, n, x) {
+    if !fit {
         return ignore(13);
     }
     let Kind::Writes(w) = k else {
@@ -190,9 +181,18 @@ fn judge_kind(
 }
 
 // 12, 11, 10, 12, or what a known command asks.
-fn judge(part: u32, r: Regs, n: usize, x: u32, high: bool, op: u8, a: usize, c: Command) -> Verdict
+fn judge(
+    part: u32,
+    r: Regs,
+    n: usize,
+    fit: bool,
+    high: bool,
+    op: u8,
+    a: usize,
+    c: Command,
+) -> Verdict
     requires { ⌜ a < partOf part .size ⌝ }
-    ensures { λ v. ⌜ v ≡ judgeOf (partOf part) r n x high op a c ⌝ }
+    ensures { λ v. ⌜ v ≡ judgeOf (partOf part) r n fit high op a c ⌝ }
 {
     if n == 0 {
         return ignore(12);
@@ -206,7 +206,7 @@ fn judge(part: u32, r: Regs, n: usize, x: u32, high: bool, op: u8, a: usize, c: 
     let Command::Known(k) = c else {
         return ignore(12);
     };
-    judge_kind(part, r, n, x, high, op, a, k)
+    judge_kind(part, r, fit, high, a, k)
 }
 
 // ---- the verdict on the bytes of a transaction
@@ -225,7 +225,9 @@ pub fn verdict(part: u32, regs: Regs, bytes: &[u8], leftover: u32, high: bool) -
     ensures { λ v. ⌜ v ≡ verdictOf (partOf part) regs (now (bytes .entry)) leftover high ⌝ }
 {
     let op = lists::byte_at(bytes, 0);
-    let c = parts::command_of(part, op);
+    let row = parts::row_of(part, op);
+    let fit = parts::rows::shaped_by(row, bytes.len(), leftover);
+    let c = parts::rows::command_by(row);
     let a = address_of(part, bytes);
-    judge(part, regs, bytes.len(), leftover, high, op, a, c)
+    judge(part, regs, bytes.len(), fit, high, op, a, c)
 }

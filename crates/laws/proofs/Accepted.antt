@@ -11,7 +11,7 @@ use Rattle.rules.specs.declared.Kept.{Kept}
 use Rattle.rules.specs.declared.Meter.{Meter}
 use Rattle.rules.specs.declared.Refusal.{Refusal}
 use Rattle.rules.specs.Parts.{isPart, partOf}
-use Rattle.rules.specs.Status.{wellFormed}
+use Rattle.rules.specs.WellFormed.{wellFormed}
 use Rattle.rules.specs.Counts.{countLimit, room}
 use Rattle.rules.specs.Refusals.{refusal, _orElse_, transactionLimit, transactRefusal}
 use Rattle.laws.specs.Room.{Room}
@@ -52,26 +52,26 @@ abbrev firstThree : ℕ → ℕ → Kept → Refusal → Refusal
 firstThree part al kept w =
     if not (isPart part) then refusal 1 else
     if not (al =? partOf part .size) then refusal 2 else
-    if not (wellFormed (partOf part .statusEnd) kept) then refusal 3 else
+    if not (wellFormed (partOf part) kept) then refusal 3 else
     w
 
 pub record Opened (part al : ℕ) (kept : Kept) : Type 0 where
   pub known : isPart part ≡ true
   pub long : al ≡ partOf part .size
-  pub formed : wellFormed (partOf part .statusEnd) kept ≡ true
+  pub formed : wellFormed (partOf part) kept ≡ true
 
 pub opened : (part al : ℕ) (kept : Kept) (w : Refusal) → firstThree part al kept w .number ≡ 0 → Opened part al kept × (w .number ≡ 0)
 opened part al kept w e =
     let e1 = passed (not (isPart part)) 1 _ (omega arith) e in
     let e2 = passed (not (al =? partOf part .size)) 2 _ (omega arith) (e1 .1) in
-    let e3 = passed (not (wellFormed (partOf part .statusEnd) kept)) 3 _ (omega arith) (e2 .1) in
+    let e3 = passed (not (wellFormed (partOf part) kept)) 3 _ (omega arith) (e2 .1) in
     (record { known = not-false _ (e1 .0); long = eqb-true _ _ (not-false _ (e2 .0)); formed = not-false _ (e3 .0) }, e3 .1)
 
 -- .. as code asks them: `is` and `ok` are what its calls answer
-pub opened-by : (part al : ℕ) (kept : Kept) (is : Bool) (size end : ℕ) (ok : Bool) → is ≡ isPart part → not is ≡ false → size ≡ partOf part .size → al ≡ size
-    → end ≡ partOf part .statusEnd → ok ≡ wellFormed end kept → not ok ≡ false → Opened part al kept
-opened-by part al kept is size end ok a b c d e f g =
-    record { known = sym a ∙ not-false is b; long = d ∙ c; formed = rw (← e, ← f) (not-false ok g) }
+pub opened-by : (part al : ℕ) (kept : Kept) (is : Bool) (size : ℕ) (ok : Bool) → is ≡ isPart part → not is ≡ false → size ≡ partOf part .size → al ≡ size
+    → ok ≡ wellFormed (partOf part) kept → not ok ≡ false → Opened part al kept
+opened-by part al kept is size ok a b c d e f =
+    record { known = sym a ∙ not-false is b; long = d ∙ c; formed = sym e ∙ not-false ok f }
 
 pub past-three : (part al : ℕ) (kept : Kept) (w : Refusal) → Opened part al kept → firstThree part al kept w ≡ w
 unfolding if_then_else_

@@ -1,9 +1,9 @@
--- What the absence of refusal 23 says of a step: what it touches lies in the chip.
+-- What the absence of refusal 23 says of a step: what it touches lies in the chip, and the chip has its unit or setting.
 use mathlib.Core.Path.{_≡_}
-use mathlib.Core.Bool.{Bool, false, _||_}
+use mathlib.Core.Bool.{Bool, true, false, not, _||_}
 use Prim.Native.Nat.{ℕ, _+_, _≤_, _<_}
 use native.Mathlib.Omega.{arith}
-use borrow.Author.Tests.{leb-false, ltb-false, eqb-false}
+use borrow.Author.Tests.{leb-false, ltb-false, eqb-false, not-false}
 use Rattle.lists.specs.Choice.{_=?_, _<?_, _≤?_}
 use Rattle.lists.proofs.Choice.{either-false}
 use Rattle.rules.specs.declared.EraseUnit.{EraseUnit}
@@ -32,8 +32,18 @@ module _ (p : Part) where
       let z = eqb-false (s .length) 0 (c .1) in
       record { starts = leb-false _ _ (c .0); not-empty = omega arith; few = ltb-false _ _ (b .1); ends = ltb-false _ _ (a .1) }
 
-  pub erase-inside : (u : EraseUnit) (a : ℕ) → outside p (EraseAt u a) ≡ false → a < p .size
-  erase-inside u a e = leb-false _ _ (either-false (p .size ≤? a) (chipNotAtZero u a) e .0)
+  module _ (u : EraseUnit) (a : ℕ) (e : outside p (EraseAt u a) ≡ false) where
+    passed : (not (p .erases u) ≡ false) × ((p .size ≤? a) ≡ false)
+    passed = either-false (not (p .erases u)) (p .size ≤? a) (either-false (not (p .erases u) || (p .size ≤? a)) (chipNotAtZero u a) e .0)
+
+    pub erase-inside : a < p .size
+    erase-inside = leb-false _ _ (passed .1)
+
+    pub unit-offered : p .erases u ≡ true
+    unit-offered = not-false _ (passed .0)
+
+  pub guard-held : (g : ℕ) → outside p (Guard g) ≡ false → g ≤ p .settingLimit
+  guard-held g e = ltb-false (p .settingLimit) g e
 
   pub step-end : Sound p → (w : Step) → outside p w ≡ false → stepStart w + stepReach p w ≤ p .size
   step-end h (EraseAt u a) e = unit-end p h u a (erase-inside u a e)

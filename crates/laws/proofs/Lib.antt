@@ -1,12 +1,16 @@
 pub mod Accepted
 pub mod Answered
 pub mod CarriedOut
-pub mod Guards
+pub mod Flags
+pub mod Fm25q16
 pub mod Inside
 pub mod JobPassed
 pub mod Judged
 pub mod NoWrite
+pub mod Parts
 pub mod Protection
 pub mod RecordOk
 pub mod Rows
 pub mod Sound
+pub mod Steady
+pub mod Tapeable

@@ -11,7 +11,7 @@ use Rattle.rules.specs.declared.Command.{Command}
 use Rattle.rules.specs.declared.Verdict.{Verdict}
 use Rattle.rules.specs.declared.Verdict.the-variants.{CarriedOut}
 use Rattle.rules.specs.Kinds.{ofWrite, ofKnown}
-use Rattle.rules.specs.Part.{Part, shaped}
+use Rattle.rules.specs.Part.{Part}
 use Rattle.rules.specs.Protection.{firstProtected}
 use Rattle.rules.specs.Writes.{reachStart, reachLength, lockedOut}
 use Rattle.rules.specs.Verdict.{ignored, unheardAsleep, unheardBusy}
@@ -28,16 +28,16 @@ writeVerdict p r high a k w =
     if lockedOut w r high then ignored 15 else
     protectionVerdict k (firstProtected p (r .setting) (reachStart w a) (reachLength p w))
 
--- 13, or what the kind asks: n bytes and x leftover bits
-unfoldable pub kindVerdict : Part → Regs → ℕ → ℕ → Bool → ℕ → ℕ → Kind → Verdict
-kindVerdict p r n x high op a k =
-    if not (shaped p op n x) then ignored 13 else
+-- 13, or what the kind asks: its bytes and bits fit, or they do not
+unfoldable pub kindVerdict : Part → Regs → Bool → Bool → ℕ → Kind → Verdict
+kindVerdict p r fit high a k =
+    if not fit then ignored 13 else
     ofWrite k (CarriedOut k) (writeVerdict p r high a k)
 
--- 12, 11, 10, 12, or what a known command asks: op says c to the chip
-unfoldable pub judgeOf : Part → Regs → ℕ → ℕ → Bool → ℕ → ℕ → Command → Verdict
-judgeOf p r n x high op a c =
+-- 12, 11, 10, 12, or what a known command asks: op, the first of n bytes, says c to the chip
+unfoldable pub judgeOf : Part → Regs → ℕ → Bool → Bool → ℕ → ℕ → Command → Verdict
+judgeOf p r n fit high op a c =
     if n =? 0 then ignored 12 else
     if unheardAsleep p r op then ignored 11 else
     if unheardBusy p r op then ignored 10 else
-    ofKnown c (ignored 12) (kindVerdict p r n x high op a)
+    ofKnown c (ignored 12) (kindVerdict p r fit high a)

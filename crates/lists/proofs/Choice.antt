@@ -1,6 +1,7 @@
 -- Laws of choices and of tests.
 use mathlib.Core.Path.{_≡_, refl}
 use mathlib.Core.Bool.{Bool, true, false, _&&_, _||_}
+use mathlib.Core.Logic.{_⊎_, inl, inr, ⊎-elim, _↔_}
 use Prim.Native.Nat.{ℕ}
 use native.Mathlib.Omega.{arith}
 use Rattle.lists.specs.Choice.{if_then_else_}
@@ -36,6 +37,10 @@ and-true false = refl
 
 pub both-left : (s t : Bool) → s ≡ false → (s && t) ≡ false
 both-left s t e = rw e
+
+pub either-true : (s t : Bool) → (s || t) ≡ true ↔ (s ≡ true) ⊎ (t ≡ true)
+either-true true t = (inl, λ h. refl)
+either-true false t = (inr, ⊎-elim (λ e. cc) (λ e. e))
 
 pub either-false : (s t : Bool) → (s || t) ≡ false → (s ≡ false) × (t ≡ false)
 either-false true t e = let z : _≡_ {A = ℕ} 0 1 = cc in absurd (omega arith)

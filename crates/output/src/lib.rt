@@ -8,7 +8,7 @@ ghost use lib.ListN.{length};
 ghost use Rattle.lists.specs.Places.{tabulate};
 ghost use Rattle.rules.specs.Parts.{partOf};
 ghost use Rattle.cells.specs.InTurn.{inTurn};
-ghost use Rattle.rules.specs.Transaction.{fromPlace, arrayFrom, makerDevice, jedecBytes, drivenAt, outAt};
+ghost use Rattle.rules.specs.Transaction.{fromPlace, arrayFrom, makerDevice, drivenAt, outAt};
 
 // FF, and from place k on the byte v.
 fn byte_from(out: &mut [u8], k: usize, v: u8)
@@ -62,7 +62,7 @@ fn maker_device_from(out: &mut [u8], part: u32, b: &[u8])
 
 // The JEDEC bytes, FF after the last.
 fn jedec(out: &mut [u8], part: u32)
-    ensures { λ _. ⌜ now (out .exit) ≡ tabulate (length (now (out .entry))) (jedecBytes (partOf part)) ⌝ }
+    ensures { λ _. ⌜ now (out .exit) ≡ tabulate (length (now (out .entry))) (partOf part .jedec) ⌝ }
 {
     let mut i = 0;
     while i < out.len() {
@@ -73,7 +73,7 @@ fn jedec(out: &mut [u8], part: u32)
 
 // FF, and from place 1 on the JEDEC bytes.
 fn jedec_from(out: &mut [u8], part: u32)
-    ensures { λ _. ⌜ now (out .exit) ≡ tabulate (length (now (out .entry))) (fromPlace 1 (jedecBytes (partOf part))) ⌝ }
+    ensures { λ _. ⌜ now (out .exit) ≡ tabulate (length (now (out .entry))) (fromPlace 1 (partOf part .jedec)) ⌝ }
 {
     cells::fill(out, 255);
     let n = out.len();

@@ -1,22 +1,28 @@
 // The FM25Q16's description as code, table by table.
-use rules::Command;
+use crate::rows::line;
+use rules::Bytes;
 use rules::EraseUnit;
 use rules::Kind;
+use rules::Leftover;
+use rules::Listed;
 use rules::Regs;
 use rules::Write;
 ghost use mathlib.Core.Path.{_≡_};
-ghost use mathlib.Core.Bool.{true, _&&_, _||_};
 ghost use Prim.Native.Nat.{_≤_};
-ghost use lib.ListN.{getD};
-ghost use Rattle.lists.specs.Choice.{_=?_, _≤?_};
-ghost use Rattle.rules.specs.Part.{commandIn, shapedIn};
-ghost use Rattle.rules.specs.Fm25q16.{fmSize, fmCommands, fmHeardAsleep, fmHeardBusy, fmArea, fmLo, fmHi, fmFirst, fmSecond, fmJedec, fmStatusWritten, fmGuardBytes};
-ghost use Rattle.rules.specs.Job.{settingLimit};
+ghost use Rattle.rules.specs.Part.{rowIn};
+ghost use Rattle.rules.specs.Fm25q16.{fmSize, fmCommands, fmHeardAsleep, fmHeardBusy, fmErases, fmArea, fmLo, fmHi, fmFirst, fmSecond, fmJedec, fmStatusWritten, fmGuardBytes};
+ghost use Rattle.rules.specs.Job.{guardLimit};
 
 pub const SIZE: usize = 2097152;
 
 // S10 to S15 are 0.
 pub const STATUS_END: u32 = 1024;
+
+pub const SETTING_LIMIT: u8 = 31;
+
+pub const SLEEPS: bool = true;
+
+pub const GUARD_LENGTH: usize = 3;
 
 pub const MAKER: u8 = 0xF8;
 
@@ -27,90 +33,83 @@ const SEC0: [usize; 8] = [0, 65536, 131072, 262144, 524288, 1048576, 2097152, 20
 
 const SEC1: [usize; 8] = [0, 4096, 8192, 16384, 32768, 32768, 2097152, 2097152];
 
-pub fn command_of(op: u8) -> Command
-    ensures { λ r. ⌜ r ≡ commandIn fmCommands op ⌝ }
+pub fn row_of(op: u8) -> Listed
+    ensures { λ r. ⌜ r ≡ rowIn fmCommands op ⌝ }
 {
     match op {
-        0x06 => Command::Known(Kind::WriteEnable),
-        0x04 => Command::Known(Kind::WriteDisable),
-        0x05 => Command::Known(Kind::ReadStatusLow),
-        0x35 => Command::Known(Kind::ReadStatusHigh),
-        0x01 => Command::Known(Kind::Writes(Write::WriteStatus)),
-        0x03 => Command::Known(Kind::Read),
-        0x0B => Command::Known(Kind::FastRead),
-        0x02 => Command::Known(Kind::Writes(Write::Program)),
-        0x20 => Command::Known(Kind::Writes(Write::Erase(EraseUnit::Sector))),
-        0x52 => Command::Known(Kind::Writes(Write::Erase(EraseUnit::Block32))),
-        0xD8 => Command::Known(Kind::Writes(Write::Erase(EraseUnit::Block64))),
-        0xC7 => Command::Known(Kind::Writes(Write::Erase(EraseUnit::Chip))),
-        0x60 => Command::Known(Kind::Writes(Write::Erase(EraseUnit::Chip))),
-        0xB9 => Command::Known(Kind::Sleep),
-        0xAB => Command::Known(Kind::Wake),
-        0x90 => Command::Known(Kind::ReadMakerDevice),
-        0x9F => Command::Known(Kind::ReadJedec),
-        _ => Command::Unknown,
-    }
-}
-
-// Exactly k bytes, and no leftover bits.
-fn exactly(k: usize, n: usize, x: u32) -> bool
-    ensures { λ r. ⌜ r ≡ ((n =? k) && (x =? 0)) ⌝ }
-{
-    if n != k {
-        return false;
-    }
-    x == 0
-}
-
-// k bytes or more, whatever is left over.
-fn or_more(k: usize, n: usize) -> bool
-    ensures { λ r. ⌜ r ≡ ((k ≤? n) && true) ⌝ }
-{
-    k <= n
-}
-
-// Two bytes or three, and no leftover bits.
-fn two_or_three(n: usize, x: u32) -> bool
-    ensures { λ r. ⌜ r ≡ (((n =? 2) || (n =? 3)) && (x =? 0)) ⌝ }
-{
-    if n == 2 {
-        return x == 0;
-    }
-    exactly(3, n, x)
-}
-
-// Five bytes or more, and no leftover bits.
-fn five_or_more(n: usize, x: u32) -> bool
-    ensures { λ r. ⌜ r ≡ ((5 ≤? n) && (x =? 0)) ⌝ }
-{
-    if n < 5 {
-        return false;
-    }
-    x == 0
-}
-
-pub fn is_shaped(op: u8, count: usize, leftover: u32) -> bool
-    ensures { λ r. ⌜ r ≡ shapedIn fmCommands op count leftover ⌝ }
-{
-    match op {
-        0x06 => exactly(1, count, leftover),
-        0x04 => exactly(1, count, leftover),
-        0x05 => or_more(1, count),
-        0x35 => or_more(1, count),
-        0x01 => two_or_three(count, leftover),
-        0x03 => or_more(4, count),
-        0x0B => or_more(5, count),
-        0x02 => five_or_more(count, leftover),
-        0x20 => exactly(4, count, leftover),
-        0x52 => exactly(4, count, leftover),
-        0xD8 => exactly(4, count, leftover),
-        0xC7 => exactly(1, count, leftover),
-        0x60 => exactly(1, count, leftover),
-        0xB9 => exactly(1, count, leftover),
-        0xAB => or_more(1, count),
-        0x90 => or_more(4, count),
-        0x9F => or_more(1, count),
-        _ => false,
+        0x06 => line(0x06, Kind::WriteEnable, Bytes::Exactly(1), Leftover::NoBits),
+        0x04 => line(
+            0x04,
+            Kind::WriteDisable,
+            Bytes::Exactly(1),
+            Leftover::NoBits,
+        ),
+        0x05 => line(
+            0x05,
+            Kind::ReadStatusLow,
+            Bytes::OrMore(1),
+            Leftover::AnyBits,
+        ),
+        0x35 => line(
+            0x35,
+            Kind::ReadStatusHigh,
+            Bytes::OrMore(1),
+            Leftover::AnyBits,
+        ),
+        0x01 => line(
+            0x01,
+            Kind::Writes(Write::WriteStatus),
+            Bytes::Either(2, 3),
+            Leftover::NoBits,
+        ),
+        0x03 => line(0x03, Kind::Read, Bytes::OrMore(4), Leftover::AnyBits),
+        0x0B => line(0x0B, Kind::FastRead, Bytes::OrMore(5), Leftover::AnyBits),
+        0x02 => line(
+            0x02,
+            Kind::Writes(Write::Program),
+            Bytes::OrMore(5),
+            Leftover::NoBits,
+        ),
+        0x20 => line(
+            0x20,
+            Kind::Writes(Write::Erase(EraseUnit::Sector)),
+            Bytes::Exactly(4),
+            Leftover::NoBits,
+        ),
+        0x52 => line(
+            0x52,
+            Kind::Writes(Write::Erase(EraseUnit::Block32)),
+            Bytes::Exactly(4),
+            Leftover::NoBits,
+        ),
+        0xD8 => line(
+            0xD8,
+            Kind::Writes(Write::Erase(EraseUnit::Block64)),
+            Bytes::Exactly(4),
+            Leftover::NoBits,
+        ),
+        0xC7 => line(
+            0xC7,
+            Kind::Writes(Write::Erase(EraseUnit::Chip)),
+            Bytes::Exactly(1),
+            Leftover::NoBits,
+        ),
+        0x60 => line(
+            0x60,
+            Kind::Writes(Write::Erase(EraseUnit::Chip)),
+            Bytes::Exactly(1),
+            Leftover::NoBits,
+        ),
+        0xB9 => line(0xB9, Kind::Sleep, Bytes::Exactly(1), Leftover::NoBits),
+        0xAB => line(0xAB, Kind::Wake, Bytes::OrMore(1), Leftover::AnyBits),
+        0x90 => line(
+            0x90,
+            Kind::ReadMakerDevice,
+            Bytes::OrMore(4),
+            Leftover::AnyBits,
+        ),
+        0x9F => line(0x9F, Kind::ReadJedec, Bytes::OrMore(1), Leftover::AnyBits),
+        _ => Listed::Unlisted,
     }
 }
 
@@ -127,6 +126,12 @@ pub fn heard_busy(op: u8) -> bool
         return true;
     }
     op == 0x35
+}
+
+pub fn erases(unit: EraseUnit) -> bool
+    ensures { λ r. ⌜ r ≡ fmErases unit ⌝ }
+{
+    true
 }
 
 // How many bytes a setting protects.
@@ -159,7 +164,7 @@ pub fn hi(setting: u8) -> usize
 }
 
 pub fn jedec(place: usize) -> u8
-    ensures { λ r. ⌜ r ≡ getD fmJedec place 255 ⌝ }
+    ensures { λ r. ⌜ r ≡ fmJedec place ⌝ }
 {
     match place {
         0 => 0xF8,
@@ -193,9 +198,9 @@ pub fn status_written(regs: Regs, bytes: &[u8]) -> Regs
     t
 }
 
-pub fn guard_bytes(setting: u8) -> [u8; 2]
-    requires { ⌜ setting ≤ settingLimit ⌝ }
+pub fn guard_bytes(setting: u8) -> [u8; 3]
+    requires { ⌜ setting ≤ guardLimit ⌝ }
     ensures { λ r. ⌜ r ≡ fmGuardBytes setting ⌝ }
 {
-    [4 * setting, 0]
+    [1, 4 * setting, 0]
 }

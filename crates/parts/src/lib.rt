@@ -1,16 +1,20 @@
-// What the code asks of a chip's description, by part number. A new chip is an arm in each of these; of the contracts only
-// that of `guard_bytes`, which gives two bytes, may have to move.
+// What the code asks of a chip's description, by part number. A new chip is an arm in each of these; no contract moves.
 use rules::Command;
+use rules::EraseUnit;
+use rules::Kept;
+use rules::Listed;
 use rules::Regs;
 
 mod fm25q16;
+pub mod rows;
 
 ghost use mathlib.Core.Path.{_≡_};
 ghost use Prim.Native.Nat.{_≤_};
-ghost use lib.ListN.{getD};
-ghost use Rattle.rules.specs.Part.{commandOf, shaped};
+ghost use lib.ListN.{length, take};
+ghost use Rattle.rules.specs.Part.{rowOf, commandOf};
 ghost use Rattle.rules.specs.Parts.{isPart, partOf};
-ghost use Rattle.rules.specs.Job.{settingLimit};
+ghost use Rattle.rules.specs.WellFormed.{wordFormed, awakeFormed, wellFormed};
+ghost use Rattle.rules.specs.Job.{guardLimit};
 
 // A part that there is; any other number is refusal 1.
 pub fn is_part(part: u32) -> bool
@@ -25,23 +29,84 @@ pub fn size_of(part: u32) -> usize
     fm25q16::SIZE
 }
 
-pub fn status_end(part: u32) -> u32
+// ---- the registers
+
+fn status_end(part: u32) -> u32
     ensures { λ r. ⌜ r ≡ partOf part .statusEnd ⌝ }
 {
     fm25q16::STATUS_END
 }
 
+// The highest setting that the chip holds.
+pub fn setting_limit(part: u32) -> u8
+    ensures { λ r. ⌜ (r ≡ partOf part .settingLimit) × (r ≤ guardLimit) ⌝ }
+{
+    fm25q16::SETTING_LIMIT
+}
+
+fn sleeps(part: u32) -> bool
+    ensures { λ r. ⌜ r ≡ partOf part .sleeps ⌝ }
+{
+    fm25q16::SLEEPS
+}
+
+fn word_formed(part: u32, status: u32) -> bool
+    ensures { λ t. ⌜ t ≡ wordFormed (partOf part) status ⌝ }
+{
+    if status_end(part) <= status {
+        return false;
+    }
+    if status % 2 != 1 {
+        return true;
+    }
+    status / 2 % 2 == 1
+}
+
+fn awake_formed(part: u32, kept: Kept) -> bool
+    ensures { λ t. ⌜ t ≡ awakeFormed (partOf part) kept ⌝ }
+{
+    if kept.awake == 1 {
+        return true;
+    }
+    if kept.awake != 0 {
+        return false;
+    }
+    if kept.status % 2 == 1 {
+        return false;
+    }
+    sleeps(part)
+}
+
+// Else refusal 3; judged on the caller's own numbers.
+pub fn well_formed(part: u32, kept: Kept) -> bool
+    ensures { λ t. ⌜ t ≡ wellFormed (partOf part) kept ⌝ }
+{
+    if !word_formed(part, kept.status) {
+        return false;
+    }
+    awake_formed(part, kept)
+}
+
+// The registers after the bytes of a status write.
+pub fn status_written(part: u32, regs: Regs, bytes: &[u8]) -> Regs
+    ensures { λ t. ⌜ t ≡ partOf part .statusWritten regs (now (bytes .entry)) ⌝ }
+{
+    fm25q16::status_written(regs, bytes)
+}
+
+// ---- its commands
+
+// The line of a code.
+pub fn row_of(part: u32, op: u8) -> Listed
+    ensures { λ r. ⌜ r ≡ rowOf (partOf part) op ⌝ }
+{
+    fm25q16::row_of(op)
+}
+
 pub fn command_of(part: u32, op: u8) -> Command
     ensures { λ r. ⌜ r ≡ commandOf (partOf part) op ⌝ }
 {
-    fm25q16::command_of(op)
-}
-
-// n bytes and x leftover bits are right for the code.
-pub fn is_shaped(part: u32, op: u8, count: usize, leftover: u32) -> bool
-    ensures { λ r. ⌜ r ≡ shaped (partOf part) op count leftover ⌝ }
-{
-    fm25q16::is_shaped(op, count, leftover)
+    rows::command_by(row_of(part, op))
 }
 
 pub fn heard_asleep(part: u32, op: u8) -> bool
@@ -56,7 +121,16 @@ pub fn heard_busy(part: u32, op: u8) -> bool
     fm25q16::heard_busy(op)
 }
 
-// The protected bytes at a setting: from here ..
+// Whether it has a command to erase such a unit.
+pub fn erases(part: u32, unit: EraseUnit) -> bool
+    ensures { λ r. ⌜ r ≡ partOf part .erases unit ⌝ }
+{
+    fm25q16::erases(unit)
+}
+
+// ---- the protected bytes at a setting
+
+// From here ..
 pub fn area_lo(part: u32, setting: u8) -> usize
     ensures { λ r. ⌜ r ≡ partOf part .lo setting ⌝ }
 {
@@ -70,6 +144,8 @@ pub fn area_hi(part: u32, setting: u8) -> usize
     fm25q16::hi(setting)
 }
 
+// ---- its identification
+
 pub fn maker(part: u32) -> u8
     ensures { λ r. ⌜ r ≡ partOf part .maker ⌝ }
 {
@@ -82,24 +158,25 @@ pub fn device(part: u32) -> u8
     fm25q16::DEVICE
 }
 
-// JEDEC byte j, FF past the last.
+// Byte j of a JEDEC read.
 pub fn jedec(part: u32, place: usize) -> u8
-    ensures { λ r. ⌜ r ≡ getD (partOf part .jedec) place 255 ⌝ }
+    ensures { λ r. ⌜ r ≡ partOf part .jedec place ⌝ }
 {
     fm25q16::jedec(place)
 }
 
-// The registers after the bytes of a status write.
-pub fn status_written(part: u32, regs: Regs, bytes: &[u8]) -> Regs
-    ensures { λ t. ⌜ t ≡ partOf part .statusWritten regs (now (bytes .entry)) ⌝ }
-{
-    fm25q16::status_written(regs, bytes)
-}
+// ---- a guard's bytes, the command first
 
-// The status bytes that a guard sends.
-pub fn guard_bytes(part: u32, setting: u8) -> [u8; 2]
-    requires { ⌜ setting ≤ settingLimit ⌝ }
-    ensures { λ r. ⌜ r ≡ partOf part .guardBytes setting ⌝ }
+pub fn guard_bytes(part: u32, setting: u8) -> [u8; 3]
+    requires { ⌜ setting ≤ partOf part .settingLimit ⌝ }
+    ensures { λ r. ⌜ take (length (partOf part .guardBytes setting)) r ≡ partOf part .guardBytes setting ⌝ }
 {
     fm25q16::guard_bytes(setting)
+}
+
+// How many of them are sent.
+pub fn guard_length(part: u32, setting: u8) -> usize
+    ensures { λ r. ⌜ (r ≡ length (partOf part .guardBytes setting)) × (r ≤ 3) ⌝ }
+{
+    fm25q16::GUARD_LENGTH
 }

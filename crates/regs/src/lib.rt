@@ -3,7 +3,7 @@ use rules::Kept;
 use rules::Regs;
 ghost use mathlib.Core.Path.{_≡_};
 ghost use Prim.Native.Nat.{_≤_, _<_};
-ghost use Rattle.rules.specs.Status.{regsOf, flag, statusOf, keptOf, lowByte, highByte, wellFormed, withBusy, withWel, withSetting, withSrp0, withSrp1, withQe, withAwake};
+ghost use Rattle.rules.specs.Status.{regsOf, flag, statusOf, keptOf, lowByte, highByte, withBusy, withWel, withSetting, withSrp0, withSrp1, withQe, withAwake};
 ghost use Rattle.rules.specs.Events.{finished, unlatched, powerCycled};
 
 // ---- the word taken apart, and put together
@@ -59,25 +59,6 @@ pub fn high_byte(regs: Regs) -> u8
     ensures { λ t. ⌜ t ≡ highByte regs ⌝ }
 {
     (status_of(regs) / 256) as u8
-}
-
-// Else refusal 3; judged on the caller's own numbers.
-pub fn well_formed(status_end: u32, kept: Kept) -> bool
-    ensures { λ t. ⌜ t ≡ wellFormed «status_end» kept ⌝ }
-{
-    if status_end <= kept.status {
-        return false;
-    }
-    if 1 < kept.awake {
-        return false;
-    }
-    if kept.status % 2 != 1 {
-        return true;
-    }
-    if kept.status / 2 % 2 != 1 {
-        return false;
-    }
-    kept.awake == 1
 }
 
 // ---- one register set

@@ -127,7 +127,7 @@ fn refusal_of(part: u32, al: usize, kept: Kept, m: Meter, tape: &[u8]) -> Refusa
     if al != parts::size_of(part) {
         return refusals::refusal(2);
     }
-    if !regs::well_formed(parts::status_end(part), kept) {
+    if !parts::well_formed(part, kept) {
         return refusals::refusal(3);
     }
     if !tape::is_whole(tape) {

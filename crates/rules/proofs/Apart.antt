@@ -27,7 +27,7 @@ use Rattle.rules.specs.declared.Translated.the-variants as Tl
 use Rattle.rules.specs.declared.Quoted.{Quoted}
 use Rattle.rules.specs.declared.Quoted.the-variants as Qu
 use Rattle.rules.specs.Kinds.{codeOf, ofKnown}
-use Rattle.rules.specs.Part.{commandIn}
+use Rattle.rules.specs.Part.{rowIn, commandBy}
 use Rattle.rules.specs.Fm25q16.{fmCommands}
 use Rattle.rules.specs.Status.{flag}
 use Rattle.rules.specs.Verdict.{VerdictTold, ignored, verdictTold}
@@ -44,8 +44,8 @@ apart told back h a b e = sym (h a) ∙ ap back e ∙ h b
 -- ---- kinds and verdicts
 
 -- the code of a kind says that kind to the FM25Q16
-pub code-back : (k : Kind) → commandIn fmCommands (codeOf k) ≡ Known k
-unfolding commandIn fmCommands if_then_else_
+pub code-back : (k : Kind) → commandBy (rowIn fmCommands (codeOf k)) ≡ Known k
+unfolding rowIn fmCommands if_then_else_
 code-back WriteEnable = refl
 code-back WriteDisable = refl
 code-back ReadStatusLow = refl
@@ -64,7 +64,7 @@ code-back (Writes (Erase Chip)) = refl
 code-back (Writes WriteStatus) = refl
 
 kindBack : ℕ → Kind
-kindBack c = ofKnown (commandIn fmCommands c) WriteEnable (λ k. k)
+kindBack c = ofKnown (commandBy (rowIn fmCommands c)) WriteEnable (λ k. k)
 
 kind-back : (k : Kind) → kindBack (codeOf k) ≡ k
 unfolding kindBack ofKnown
@@ -73,14 +73,14 @@ kind-back k = rw (code-back k)
 pub kinds-apart : (k j : Kind) → codeOf k ≡ codeOf j → k ≡ j
 kinds-apart = apart codeOf kindBack kind-back
 
-zero-unknown : commandIn fmCommands 0 ≡ Unknown
-unfolding commandIn fmCommands if_then_else_
+zero-unknown : commandBy (rowIn fmCommands 0) ≡ Unknown
+unfolding rowIn fmCommands if_then_else_
 zero-unknown = refl
 
 -- no kind has the code 0
 coded : (k : Kind) → codeOf k ≡ 0 → ⊥
 coded k e =
-    let q : Known k ≡ Unknown = sym (code-back k) ∙ ap (commandIn fmCommands) e ∙ zero-unknown in
+    let q : Known k ≡ Unknown = sym (code-back k) ∙ ap (λ (c : ℕ). commandBy (rowIn fmCommands c)) e ∙ zero-unknown in
     let z : _≡_ {A = ℕ} 0 1 = cc in
     omega arith
 

@@ -15,10 +15,11 @@ use Rattle.rules.specs.declared.Verdict.{Verdict}
 use Rattle.rules.specs.declared.Verdict.the-variants.{CarriedOut, Ignored}
 use Rattle.lists.specs.Places.{tabulateFrom, tabulate, patched, firstIn}
 use Rattle.rules.specs.Kinds.{ofWrite, ofKnown}
-use Rattle.rules.specs.Part.{takes, leaves, commandIn, shapedIn, commandOf, shaped}
+use Rattle.rules.specs.Part.{takes, leaves, rowIn, rowOf}
 use Rattle.rules.specs.Fm25q16.{fmCommands, fmHeardAsleep, fmHeardBusy, fmSec0, fmSec1, fmArea, fmLo, fmHi, fmFirst, fmSecond, fmStatusWritten, fm25q16}
 use Rattle.rules.specs.Parts.{isPart, partOf}
-use Rattle.rules.specs.Status.{regsOf, statusOf, keptOf, lowByte, highByte, wellFormed}
+use Rattle.rules.specs.Status.{regsOf, statusOf, keptOf, lowByte, highByte}
+use Rattle.rules.specs.WellFormed.{wordFormed, awakeFormed, wellFormed}
 use Rattle.rules.specs.Protection.{isProtected, firstProtected, someProtected}
 use Rattle.rules.specs.Cells.{cell, programmed, erased}
 use Rattle.rules.specs.Writes.{reachStart, locked}
@@ -139,7 +140,7 @@ each [] = refl
 each (t ∷ ts) = λ i. observed-at t i ∷ each ts i
 
 computed : map (observedAt 2097152) readings ≡ map (λ t. t .expected) readings
-unfolding observedAt transactedAt turnAt lookBy readings seenOf lookAt finishing arrayAt stored blank transactServed transactRefused transactRefusal isPart partOf fm25q16 fmCommands fmHeardAsleep fmHeardBusy fmSec0 fmSec1 fmArea fmLo fmHi takes leaves commandIn shapedIn commandOf shaped regsOf statusOf keptOf lowByte highByte wellFormed isProtected firstProtected someProtected cell programmed erased locked fmFirst fmSecond fmStatusWritten addressOf unheardAsleep unheardBusy verdictOf fromPlace turnOf room finished eventRefusal eventOf finishOf ofWrite ofKnown if_then_else_ tabulateFrom tabulate patched firstIn
+unfolding observedAt transactedAt turnAt lookBy readings seenOf lookAt finishing arrayAt stored blank transactServed transactRefused transactRefusal isPart partOf fm25q16 fmCommands fmHeardAsleep fmHeardBusy fmSec0 fmSec1 fmArea fmLo fmHi takes leaves rowIn rowOf regsOf statusOf keptOf lowByte highByte wordFormed awakeFormed wellFormed isProtected firstProtected someProtected cell programmed erased locked fmFirst fmSecond fmStatusWritten addressOf unheardAsleep unheardBusy verdictOf fromPlace turnOf room finished eventRefusal eventOf finishOf ofWrite ofKnown if_then_else_ tabulateFrom tabulate patched firstIn
 computed = refl
 
 pub bench : map observed readings ≡ map (λ t. t .expected) readings

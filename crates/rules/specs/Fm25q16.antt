@@ -1,15 +1,19 @@
 -- The FM25Q16 of source document 001: document 01's tables, line by line.
 use Prim.Native.Nat.{ℕ, _*_, _-_, _/_, _%_}
-use mathlib.Core.Bool.{Bool, _||_}
+use mathlib.Core.Bool.{Bool, true, _||_}
 use mathlib.Core.List.{List, [], _∷_}
 use lib.ListN.{length, getD}
 use Rattle.lists.specs.Choice.{if_then_else_, _=?_}
+use Rattle.rules.specs.declared.EraseUnit.{EraseUnit}
 use Rattle.rules.specs.declared.EraseUnit.the-variants.{Sector, Block32, Block64, Chip}
 use Rattle.rules.specs.declared.Write.the-variants.{Program, Erase, WriteStatus}
 use Rattle.rules.specs.declared.Kind.the-variants.{WriteEnable, WriteDisable, ReadStatusLow, ReadStatusHigh, Read, FastRead, Sleep, Wake, ReadMakerDevice, ReadJedec, Writes}
 use Rattle.rules.specs.declared.Regs.{Regs}
 use Rattle.rules.specs.Status.{bit0, bitAt, srp0Bit, settingOf, withSetting, withSrp0, withSrp1, withQe}
-use Rattle.rules.specs.Part.{Part, Row, row, exactly, either, orMore, noBits, anyBits}
+use Rattle.rules.specs.declared.Bytes.the-variants.{Exactly, Either, OrMore}
+use Rattle.rules.specs.declared.Leftover.the-variants.{NoBits, AnyBits}
+use Rattle.rules.specs.declared.Row.{Row}
+use Rattle.rules.specs.Part.{Part, row}
 
 abbrev pub fmSize : ℕ
 fmSize = 2097152
@@ -30,24 +34,28 @@ fmBlocks64 = 32
 -- 01, "What a transaction does": command, bytes n; and the sentence on leftover bits
 unfoldable pub fmCommands : List Row
 fmCommands =
-    row 0x06 WriteEnable (exactly 1) noBits
-    ∷ row 0x04 WriteDisable (exactly 1) noBits
-    ∷ row 0x05 ReadStatusLow (orMore 1) anyBits
-    ∷ row 0x35 ReadStatusHigh (orMore 1) anyBits
-    ∷ row 0x01 (Writes WriteStatus) (either 2 3) noBits
-    ∷ row 0x03 Read (orMore 4) anyBits
-    ∷ row 0x0B FastRead (orMore 5) anyBits
-    ∷ row 0x02 (Writes Program) (orMore 5) noBits
-    ∷ row 0x20 (Writes (Erase Sector)) (exactly 4) noBits
-    ∷ row 0x52 (Writes (Erase Block32)) (exactly 4) noBits
-    ∷ row 0xD8 (Writes (Erase Block64)) (exactly 4) noBits
-    ∷ row 0xC7 (Writes (Erase Chip)) (exactly 1) noBits
-    ∷ row 0x60 (Writes (Erase Chip)) (exactly 1) noBits
-    ∷ row 0xB9 Sleep (exactly 1) noBits
-    ∷ row 0xAB Wake (orMore 1) anyBits
-    ∷ row 0x90 ReadMakerDevice (orMore 4) anyBits
-    ∷ row 0x9F ReadJedec (orMore 1) anyBits
+    row 0x06 WriteEnable (Exactly 1) NoBits
+    ∷ row 0x04 WriteDisable (Exactly 1) NoBits
+    ∷ row 0x05 ReadStatusLow (OrMore 1) AnyBits
+    ∷ row 0x35 ReadStatusHigh (OrMore 1) AnyBits
+    ∷ row 0x01 (Writes WriteStatus) (Either 2 3) NoBits
+    ∷ row 0x03 Read (OrMore 4) AnyBits
+    ∷ row 0x0B FastRead (OrMore 5) AnyBits
+    ∷ row 0x02 (Writes Program) (OrMore 5) NoBits
+    ∷ row 0x20 (Writes (Erase Sector)) (Exactly 4) NoBits
+    ∷ row 0x52 (Writes (Erase Block32)) (Exactly 4) NoBits
+    ∷ row 0xD8 (Writes (Erase Block64)) (Exactly 4) NoBits
+    ∷ row 0xC7 (Writes (Erase Chip)) (Exactly 1) NoBits
+    ∷ row 0x60 (Writes (Erase Chip)) (Exactly 1) NoBits
+    ∷ row 0xB9 Sleep (Exactly 1) NoBits
+    ∷ row 0xAB Wake (OrMore 1) AnyBits
+    ∷ row 0x90 ReadMakerDevice (OrMore 4) AnyBits
+    ∷ row 0x9F ReadJedec (OrMore 1) AnyBits
     ∷ []
+
+-- 01, "The chip we bill for": every unit has its erase
+unfoldable pub fmErases : EraseUnit → Bool
+fmErases u = true
 
 -- 01, Verdicts: "11 asleep and not AB"
 unfoldable pub fmHeardAsleep : ℕ → Bool
@@ -102,22 +110,25 @@ unfoldable pub fmStatusWritten : Regs → List ℕ → Regs
 fmStatusWritten r b =
     if length b =? 3 then fmSecond (fmFirst r (getD b 1 0)) (getD b 2 0) else fmFirst r (getD b 1 0)
 
--- 01, "Jobs and tapes": a guard sends "four times the setting, 00"
+-- 01, "Jobs and tapes": a guard is 01, "four times the setting, 00"
 unfoldable pub fmGuardBytes : ℕ → List ℕ
-fmGuardBytes s = 4 * s ∷ 0x00 ∷ []
+fmGuardBytes s = 0x01 ∷ 4 * s ∷ 0x00 ∷ []
 
--- the identification bytes are those of 001, 11.2.1
-abbrev pub fmJedec : List ℕ
-fmJedec = 0xF8 ∷ 0x32 ∷ 0x15 ∷ []
+-- the identification bytes are those of 001, 11.2.1; then FF
+unfoldable pub fmJedec : ℕ → ℕ
+fmJedec j = getD (0xF8 ∷ 0x32 ∷ 0x15 ∷ []) j 0xFF
 
 unfoldable pub fm25q16 : Part
 fm25q16 =
     record {
       size = fmSize;
       statusEnd = 1024;
+      settingLimit = 31;
+      sleeps = true;
       commands = fmCommands;
       heardAsleep = fmHeardAsleep;
       heardBusy = fmHeardBusy;
+      erases = fmErases;
       lo = fmLo;
       hi = fmHi;
       maker = 0xF8;
@@ -125,4 +136,5 @@ fm25q16 =
       jedec = fmJedec;
       statusWritten = fmStatusWritten;
       guardBytes = fmGuardBytes;
+      guardClears = true;
     }

@@ -23,9 +23,9 @@ use Rattle.rules.specs.Tape.{isZero}
 abbrev pub stepLength : ℕ
 stepLength = 16
 
--- a setting is 0 to 31
-abbrev pub settingLimit : ℕ
-settingLimit = 31
+-- "byte 1 is a setting 0 to 31"; a chip may hold fewer
+abbrev pub guardLimit : ℕ
+guardLimit = 31
 
 -- ---- the 16 bytes from place a on of a job
 
@@ -62,7 +62,7 @@ decodedLay job a =
 -- "3 guard: byte 1 is a setting 0 to 31; the rest 0"
 unfoldable pub decodedGuard : List ℕ → ℕ → Decoded
 decodedGuard job a =
-    if (getD job (a + 1) 0 ≤? settingLimit) && zeros job (a + 4) 12 then Good (Guard (getD job (a + 1) 0)) else Bad
+    if (getD job (a + 1) 0 ≤? guardLimit) && zeros job (a + 4) 12 then Good (Guard (getD job (a + 1) 0)) else Bad
 
 -- "byte 0 is the kind, bytes 2 and 3 are 0"; Bad is refusal 22
 unfoldable pub decodedAt : List ℕ → ℕ → Decoded
@@ -116,15 +116,20 @@ settingMeant s (EraseAt u a) = s
 settingMeant s (Lay w) = s
 settingMeant s (Guard g) = g
 
--- "this setting, and S7, S8, S9 become 0"
-abbrev pub guarded : Regs → ℕ → Regs
-guarded r g = withQe (withSrp1 (withSrp0 (withSetting r g) false) false) false
+-- what a guard makes of S7, S8 and S9
+abbrev pub cleared : Part → Bool → Bool
+cleared p b = if p .guardClears then false else b
+
+-- "this setting, and S7, S8, S9 become 0", on a chip whose guard clears them
+abbrev pub guarded : Part → Regs → ℕ → Regs
+guarded p r g =
+    withQe (withSrp1 (withSrp0 (withSetting r g) (cleared p (r .srp0))) (cleared p (r .srp1))) (cleared p (r .qe))
 
 -- on the registers: "after a non-empty tape WEL is 0; other bits not set by a guard are as at the start"
-abbrev pub regsMeant : Regs → Step → Regs
-regsMeant r (EraseAt u a) = withWel r false
-regsMeant r (Lay w) = withWel r false
-regsMeant r (Guard g) = withWel (guarded r g) false
+abbrev pub regsMeant : Part → Regs → Step → Regs
+regsMeant p r (EraseAt u a) = withWel r false
+regsMeant p r (Lay w) = withWel r false
+regsMeant p r (Guard g) = withWel (guarded p r g) false
 
 -- ---- what a job means: its steps one after the other
 
@@ -132,6 +137,6 @@ unfoldable pub arrayMeant : Part → List ℕ → List ℕ → List Step → Lis
 arrayMeant p payload l [] = l
 arrayMeant p payload l (s ∷ ss) = arrayMeant p payload (meant p payload l s) ss
 
-unfoldable pub allRegsMeant : Regs → List Step → Regs
-allRegsMeant r [] = r
-allRegsMeant r (s ∷ ss) = allRegsMeant (regsMeant r s) ss
+unfoldable pub allRegsMeant : Part → Regs → List Step → Regs
+allRegsMeant p r [] = r
+allRegsMeant p r (s ∷ ss) = allRegsMeant p (regsMeant p r s) ss

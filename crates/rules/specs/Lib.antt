@@ -4,6 +4,7 @@ pub mod Status
 pub mod Part
 pub mod Fm25q16
 pub mod Parts
+pub mod WellFormed
 pub mod Protection
 pub mod Cells
 pub mod Writes

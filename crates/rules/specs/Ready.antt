@@ -6,12 +6,13 @@ use mathlib.Core.Path.{_≡_}
 use Rattle.rules.specs.declared.Kept.{Kept}
 use Rattle.rules.specs.declared.Meter.{Meter}
 use Rattle.rules.specs.Part.{Part}
-use Rattle.rules.specs.Status.{regsOf, wellFormed}
+use Rattle.rules.specs.Status.{regsOf}
+use Rattle.rules.specs.WellFormed.{wellFormed}
 use Rattle.rules.specs.Counts.{room}
 use Rattle.rules.specs.Tape.{records}
 
 pub record Ready (p : Part) (setting : ℕ) (kept : Kept) : Type 0 where
-  pub formed : wellFormed (p .statusEnd) kept ≡ true
+  pub formed : wellFormed p kept ≡ true
   pub awake : regsOf kept .awake ≡ true
   -- "idle means BUSY is 0"
   pub idle : regsOf kept .busy ≡ false

@@ -6,7 +6,7 @@ use lib.ListN.{take, drop}
 use Rattle.rules.specs.declared.EraseUnit.{EraseUnit}
 use Rattle.rules.specs.declared.EraseUnit.the-variants.{Sector, Block32, Block64, Chip}
 use Rattle.rules.specs.declared.Kind.the-variants.{WriteEnable, Writes}
-use Rattle.rules.specs.declared.Write.the-variants.{Program, Erase, WriteStatus}
+use Rattle.rules.specs.declared.Write.the-variants.{Program, Erase}
 use Rattle.rules.specs.declared.Step.{Step}
 use Rattle.rules.specs.declared.Step.the-variants.{EraseAt, Lay, Guard}
 use Rattle.rules.specs.Kinds.{codeOf}
@@ -45,7 +45,7 @@ pageRecs (suc n) a bs =
 abbrev pub stepRecs : Part → List ℕ → Step → List Rec
 stepRecs p payload (EraseAt u a) = threeRecs (eraseBytes u a)
 stepRecs p payload (Lay s) = pageRecs (pagesTouched (s .address) (s .length)) (s .address) (layBytes payload s)
-stepRecs p payload (Guard g) = threeRecs (codeOf (Writes WriteStatus) ∷ p .guardBytes g)
+stepRecs p payload (Guard g) = threeRecs (p .guardBytes g)
 
 -- .. and of a job
 unfoldable pub jobRecs : Part → List ℕ → List Step → List Rec

@@ -7,7 +7,7 @@ use Rattle.rules.specs.declared.Kept.{Kept}
 use Rattle.rules.specs.declared.Meter.{Meter}
 use Rattle.rules.specs.declared.Refusal.{Refusal}
 use Rattle.rules.specs.Parts.{isPart, partOf}
-use Rattle.rules.specs.Status.{wellFormed}
+use Rattle.rules.specs.WellFormed.{wellFormed}
 use Rattle.rules.specs.Counts.{room}
 
 -- a refusal without an index
@@ -39,7 +39,7 @@ unfoldable pub transactRefusal : (part arrayLength : ℕ) (kept : Kept) (n lefto
 transactRefusal part arrayLength kept n leftover outLength meter =
     if not (isPart part) then refusal 1 else
     if not (arrayLength =? partOf part .size) then refusal 2 else
-    if not (wellFormed (partOf part .statusEnd) kept) then refusal 3 else
+    if not (wellFormed (partOf part) kept) then refusal 3 else
     if transactionLimit <? n then refusal 4 else
     if leftoverLimit <? leftover then refusal 5 else
     if outLength <? n then refusal 6 else
@@ -50,5 +50,5 @@ transactRefusal part arrayLength kept n leftover outLength meter =
 unfoldable pub eventRefusal : (part : ℕ) (kept : Kept) → Refusal
 eventRefusal part kept =
     if not (isPart part) then refusal 1 else
-    if not (wellFormed (partOf part .statusEnd) kept) then refusal 3 else
+    if not (wellFormed (partOf part) kept) then refusal 3 else
     refusal 0

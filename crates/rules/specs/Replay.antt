@@ -12,7 +12,8 @@ use Rattle.rules.specs.declared.Refusal.{Refusal}
 use Rattle.rules.specs.declared.Replayed.{Replayed}
 use Rattle.rules.specs.declared.Replayed.the-variants.{Ended, Refused}
 use Rattle.rules.specs.Parts.{isPart, partOf}
-use Rattle.rules.specs.Status.{regsOf, keptOf, wellFormed}
+use Rattle.rules.specs.Status.{regsOf, keptOf}
+use Rattle.rules.specs.WellFormed.{wellFormed}
 use Rattle.rules.specs.Counts.{room}
 use Rattle.rules.specs.Refusals.{refusal, refusalAt, accepted, _orElse_}
 use Rattle.rules.specs.Transact.{AnswerTold}
@@ -36,13 +37,17 @@ unfoldable pub replayRefusal : (part arrayLength : ℕ) (kept : Kept) (meter : M
 replayRefusal part arrayLength kept meter tape =
     if not (isPart part) then refusal 1 else
     if not (arrayLength =? partOf part .size) then refusal 2 else
-    if not (wellFormed (partOf part .statusEnd) kept) then refusal 3 else
+    if not (wellFormed (partOf part) kept) then refusal 3 else
     if not (whole tape) then refusal 30 else
     recordsRefusal meter tape
 
+-- a tape that was played to its end, or to the record asked for
+abbrev pub playedTold : Kept → Meter → AnswerTold
+playedTold kept meter = record { served = true; number = 0; code = 0; index = 0; regs = kept; meter = meter }
+
 -- the paper's number and values: a refusal leaves the registers and the meter as they were handed in
 abbrev pub replayTold : (kept : Kept) (meter : Meter) → Replayed → AnswerTold
-replayTold kept meter (Ended s) = record { served = true; number = 0; code = 0; index = 0; regs = s .regs; meter = s .meter }
+replayTold kept meter (Ended s) = playedTold (s .regs) (s .meter)
 replayTold kept meter (Refused z) = record { served = false; number = z .number; code = 0; index = z .index; regs = kept; meter = meter }
 
 -- all that a caller sees

@@ -1,8 +1,8 @@
 -- The registers: 16 status bits, and awake or asleep. Document 01, "Status bits and protection".
 -- S0 BUSY, S1 WEL, S2 to S6 the setting, S7 SRP0, S8 SRP1, S9 QE, S15 SUS; S10 to S15 are 0.
 use Prim.Native.Nat.{ℕ, _+_, _*_, _/_, _%_}
-use mathlib.Core.Bool.{Bool, true, false, not, _&&_, _||_}
-use Rattle.lists.specs.Choice.{_=?_, _<?_, _≤?_}
+use mathlib.Core.Bool.{Bool, true, false}
+use Rattle.lists.specs.Choice.{_=?_}
 use Rattle.rules.specs.declared.Kept.{Kept}
 use Rattle.rules.specs.declared.Regs.{Regs}
 
@@ -70,21 +70,6 @@ lowByte r = statusOf r % 256
 
 unfoldable pub highByte : Regs → ℕ
 highByte r = statusOf r / 256
-
--- ---- refusal 3
-
--- one test implies another
-abbrev pub implies : Bool → Bool → Bool
-implies s t = not s || t
-
--- "well formed when S10 to S15 are 0, BUSY implies WEL, and BUSY implies awake": the status ends where the chip's does,
--- which also keeps out one of more than 16 bits; an awake over 1 is no register either
-unfoldable pub wellFormed : (statusEnd : ℕ) → Kept → Bool
-wellFormed statusEnd k =
-    (k .status <? statusEnd)
-    && (k .awake ≤? 1)
-    && implies (bit0 (k .status)) (bitAt welBit (k .status))
-    && implies (bit0 (k .status)) (k .awake =? 1)
 
 -- ---- one register set, the others as they are: no rule writes the record out
 

@@ -31,10 +31,6 @@ arrayFrom p l a j = getD l ((a + j) % p .size) 0
 unfoldable pub makerDevice : Part → List ℕ → ℕ → ℕ
 makerDevice p b j = if (getD b 3 0 + j) % 2 =? 0 then p .maker else p .device
 
--- the JEDEC bytes, then FF
-unfoldable pub jedecBytes : Part → ℕ → ℕ
-jedecBytes p j = getD (p .jedec) j 0xFF
-
 -- what a command that is carried out drives at place i
 abbrev pub drivenAt : Part → Regs → List ℕ → List ℕ → Kind → ℕ → ℕ
 drivenAt p r l b WriteEnable i = 0xFF
@@ -46,7 +42,7 @@ drivenAt p r l b FastRead i = fromPlace 5 (arrayFrom p l (addressOf p b)) i
 drivenAt p r l b Sleep i = 0xFF
 drivenAt p r l b Wake i = fromPlace 4 (λ j. p .device) i
 drivenAt p r l b ReadMakerDevice i = fromPlace 4 (makerDevice p b) i
-drivenAt p r l b ReadJedec i = fromPlace 1 (jedecBytes p) i
+drivenAt p r l b ReadJedec i = fromPlace 1 (p .jedec) i
 drivenAt p r l b (Writes w) i = 0xFF
 
 -- an ignored command drives only FF

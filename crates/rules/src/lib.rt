@@ -30,7 +30,7 @@ pub const PAYLOAD_LIMIT: usize = 65536;
 
 pub const LAY_LIMIT: usize = 4096;
 
-pub const SETTING_LIMIT: u32 = 31;
+pub const GUARD_LIMIT: u8 = 31;
 
 pub const LISTING_LIMIT: usize = 65472;
 
@@ -99,6 +99,33 @@ pub enum Kind {
     ReadMakerDevice,
     ReadJedec,
     Writes(Write),
+}
+
+// How many bytes a command takes.
+pub enum Bytes {
+    Exactly(usize),
+    Either(usize, usize),
+    OrMore(usize),
+}
+
+// What a command asks of the leftover bits.
+pub enum Leftover {
+    NoBits,
+    AnyBits,
+}
+
+// A line of a chip's table of commands.
+pub struct Row {
+    pub code: u8,
+    pub kind: Kind,
+    pub bytes: Bytes,
+    pub leftover: Leftover,
+}
+
+// What the table has for an operation code.
+pub enum Listed {
+    Line(Row),
+    Unlisted,
 }
 
 // What an operation code says to a chip.

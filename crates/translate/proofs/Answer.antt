@@ -1,5 +1,5 @@
 -- What an accepted job has, and what the translator answers.
-use mathlib.Core.Path.{_≡_, sym, ap, _∙_}
+use mathlib.Core.Path.{_≡_, sym}
 use mathlib.Core.List.{List, _++_}
 use Prim.Native.Nat.{ℕ, _≤_, _<_}
 use native.Mathlib.Omega.{arith}
@@ -10,33 +10,34 @@ use Rattle.rules.specs.declared.Step.{Step}
 use Rattle.rules.specs.declared.Decoded.the-variants.{Good}
 use Rattle.rules.specs.declared.Refusal.{Refusal}
 use Rattle.rules.specs.declared.Translated.the-variants.{Written, Refused}
+use Rattle.rules.specs.Part.{Part}
 use Rattle.rules.specs.Parts.{partOf}
 use Rattle.rules.specs.Job.{stepAt, stepCount}
-use Rattle.rules.specs.JobRefusals.{outside, beyond, jobRefusal}
+use Rattle.rules.specs.JobRefusals.{jobRefusal}
 use Rattle.rules.specs.Refusals.{refusal, _orElse_}
 use Rattle.rules.specs.Translate.{tapeOf, translateRefusal, translateTold, translateSeen, translateOf}
-use Rattle.laws.proofs.Sound.{part-sound, size-small}
-use Rattle.laws.proofs.Guards.{guard-small}
-use Rattle.laws.proofs.Inside.{erase-inside}
-use Rattle.laws.proofs.JobPassed.{lay-covered}
-use Rattle.job.proofs.Passed.{each-passed, accepted-counted}
+use Rattle.laws.proofs.Sound.{Sound, size-small}
+use Rattle.laws.proofs.Parts.{part-sound}
+use Rattle.laws.proofs.Inside.{erase-inside, guard-held}
+use Rattle.laws.proofs.JobPassed.{StepOk, lay-covered}
+use Rattle.job.proofs.Passed.{each-passed, ok-billable, passed-ok, accepted-counted}
 use Rattle.translate.specs.Writable.{Writable, WritableJob}
 
-same-step : (v w : Step) → Good v ≡ Good w → v ≡ w
-same-step v w e = cc
+-- what 22 to 25 let pass can be written, of whatever job it is a step
+pub ok-writable : (p : Part) → Sound p → (payload : List ℕ) (s : ℕ) (w : Step) → StepOk p s (length payload) w → Writable p payload w
+ok-writable p sound payload s w k =
+    record {
+      erases = λ u a f. omega (arith, erase-inside p u a (rw f at (k .inside)), size-small p sound);
+      lays = ok-billable p sound s (length payload) w k .lays;
+      covered = λ c f. lay-covered (length payload) c (rw f at (k .covered));
+      guards = λ g f. guard-held p g (rw f at (k .inside));
+    }
 
 module _ (part s : ℕ) (job payload : List ℕ) (ok : jobRefusal part s job (length payload) .number ≡ 0) where
   step-writable : (i : ℕ) → i < stepCount job → (w : Step) → stepAt job i ≡ Good w → Writable (partOf part) payload w
   step-writable i h w e =
-      let q = each-passed part s job (length payload) ok i h in
-      let v = same-step (q .step) w (sym (q .good) ∙ e) in
-      let z = size-small (partOf part) (part-sound part) in
-      record {
-        erases = λ u a f. omega (arith, erase-inside (partOf part) u a (ap (outside (partOf part)) (sym (v ∙ f)) ∙ q .ok .inside), z);
-        lays = λ c f. accepted-counted part s job (length payload) ok .each i h w e .lays c f;
-        covered = λ c f. lay-covered (length payload) c (ap (beyond (length payload)) (sym (v ∙ f)) ∙ q .ok .covered);
-        guards = λ g f. guard-small job i g (e ∙ ap Good f);
-      }
+      ok-writable (partOf part) (part-sound part) payload _ w
+      (passed-ok (partOf part) _ (length payload) (stepAt job i) w (each-passed part s job (length payload) ok i h) e)
 
   pub writable : WritableJob (partOf part) payload job
   writable = record { few = accepted-counted part s job (length payload) ok .few; each = step-writable }

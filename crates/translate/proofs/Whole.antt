@@ -12,14 +12,14 @@ use Rattle.rules.specs.declared.Decoded.the-variants.{Good, Bad}
 use Rattle.rules.specs.Part.{Part}
 use Rattle.rules.specs.Parts.{partOf}
 use Rattle.rules.specs.Tape.{Rec, encode}
-use Rattle.rules.specs.Job.{settingLimit, stepAt, stepsFrom, stepsOf, withStep, layBytes, settingMeant}
+use Rattle.rules.specs.Job.{stepAt, stepsFrom, stepsOf, withStep, layBytes}
 use Rattle.rules.specs.JobRefusals.{jobRefusal}
 use Rattle.rules.specs.Records.{stepRecs, jobRecs}
 use Rattle.rules.specs.Bill.{pagesTouched, billOf}
 use Rattle.rules.specs.Translate.{tapeOf}
 use Rattle.laws.proofs.RecordOk.{RecsOk, no-recs}
 use Rattle.tape.proofs.Encoded.{encode-length, encode-append}
-use Rattle.demand.proofs.Tapeable.{part-tapeable}
+use Rattle.laws.proofs.Parts.{part-tapeable}
 use Rattle.demand.proofs.Holds.{step-ok, pages-long, recs-long}
 use Rattle.demand.proofs.JobPlayed.{job-recs-ok}
 use Rattle.translate.specs.Spliced.{spliced}
@@ -28,14 +28,9 @@ use Rattle.translate.proofs.Splices.{splice-none, splice-recs}
 
 -- ---- each record fits its place
 
-guard-known : (p : Part) (payload : List ℕ) (w : Step) → Writable p payload w → settingMeant 0 w ≤ settingLimit
-guard-known p payload (EraseAt u a) h = omega arith
-guard-known p payload (Lay s) h = omega arith
-guard-known p payload (Guard g) h = h .guards g refl
-
-decoded-ok : (part : ℕ) (payload : List ℕ) (d : Decoded) → ((w : Step) → d ≡ Good w → Writable (partOf part) payload w) → RecsOk (decodedRecs (partOf part) payload d)
-decoded-ok part payload (Good w) h = step-ok (partOf part) (part-tapeable part) payload w (guard-known (partOf part) payload w (h w refl))
-decoded-ok part payload Bad h = no-recs
+decoded-ok : (part : ℕ) (payload : List ℕ) (d : Decoded) → RecsOk (decodedRecs (partOf part) payload d)
+decoded-ok part payload (Good w) = step-ok (partOf part) (part-tapeable part) payload w
+decoded-ok part payload Bad = no-recs
 
 -- ---- how many they are
 
@@ -84,16 +79,16 @@ room-next part payload job i n k t h r =
     omega (arith, e, f)
 
 -- one step put: what is left to do gives the same in the end
-pub step-turn : (part : ℕ) (payload job tape tape′ end : List ℕ) (i n k : ℕ) → i < n → ((w : Step) → stepAt job i ≡ Good w → Writable (partOf part) payload w)
+pub step-turn : (part : ℕ) (payload job tape tape′ end : List ℕ) (i n k : ℕ) → i < n
     → 264 * (k + decodedCount (stepAt job i)) ≤ length tape
     → tape′ ≡ spliced tape (264 * k) (encode (decodedRecs (partOf part) payload (stepAt job i)))
     → spliced tape (264 * k) (encode (restRecs part payload job i (n - i))) ≡ end
     → spliced tape′ (264 * (k + decodedCount (stepAt job i))) (encode (restRecs part payload job (i + 1) (n - (i + 1)))) ≡ end
-step-turn part payload job tape tape′ end i n k h can room f inv =
+step-turn part payload job tape tape′ end i n k h room f inv =
     let d = decodedRecs (partOf part) payload (stepAt job i) in
     let rest = restRecs part payload job (i + 1) (n - (i + 1)) in
     let c = decodedCount (stepAt job i) in
-    let l = encode-length (decoded-ok part payload (stepAt job i) can) ∙ ap (λ (w : ℕ). 264 * w) (decoded-count (partOf part) payload (stepAt job i)) in
+    let l = encode-length (decoded-ok part payload (stepAt job i)) ∙ ap (λ (w : ℕ). 264 * w) (decoded-count (partOf part) payload (stepAt job i)) in
     ap (λ (w : List ℕ). spliced w (264 * (k + c)) (encode rest)) f
     ∙ splice-recs tape k c (encode d) (encode rest) l room
     ∙ ap (spliced tape (264 * k)) (sym (encode-append d rest) ∙ ap encode (sym (recs-next part payload job i n h)))

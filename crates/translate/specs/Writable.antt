@@ -12,7 +12,7 @@ use Rattle.rules.specs.declared.Decoded.the-variants.{Good, Bad}
 use Rattle.rules.specs.Part.{Part}
 use Rattle.rules.specs.Tape.{Rec}
 use Rattle.rules.specs.Units.{addressEnd}
-use Rattle.rules.specs.Job.{settingLimit, stepAt, stepCount}
+use Rattle.rules.specs.Job.{stepAt, stepCount}
 use Rattle.rules.specs.JobRefusals.{jobLimit}
 use Rattle.rules.specs.Records.{stepRecs}
 use Rattle.rules.specs.Bill.{pagesTouched}
@@ -22,7 +22,7 @@ pub record Writable (p : Part) (payload : List ℕ) (w : Step) : Type 0 where
   pub erases : (u : EraseUnit) (a : ℕ) → w ≡ EraseAt u a → a < addressEnd
   pub lays : (s : Span) → w ≡ Lay s → Short s
   pub covered : (s : Span) → w ≡ Lay s → s .offset + s .length ≤ length payload
-  pub guards : (g : ℕ) → w ≡ Guard g → g ≤ settingLimit
+  pub guards : (g : ℕ) → w ≡ Guard g → g ≤ p .settingLimit
 
 -- how many records a step becomes
 abbrev pub recordCount : Step → ℕ

@@ -14,7 +14,7 @@ ghost use Prim.Native.Nat.{_+_, _*_, _≤_, _<_};
 ghost use lib.ListN.{length};
 ghost use Rattle.rules.specs.Tape.{Rec, encodeRec, encode, recordLength, sentLimit};
 ghost use Rattle.rules.specs.Parts.{partOf};
-ghost use Rattle.rules.specs.Job.{settingLimit, layBytes, stepsOf};
+ghost use Rattle.rules.specs.Job.{layBytes, stepsOf};
 ghost use Rattle.rules.specs.Translate.{translateTold, translateSeen, translateOf};
 ghost use Rattle.rules.specs.Records.{threeRecs, addressBytes, eraseBytes, pageRecs, stepRecs, jobRecs};
 ghost use Rattle.rules.specs.Bill.{pagesTouched};
@@ -102,12 +102,12 @@ fn put_addressed(tape: &mut [u8], k: usize, op: u8, a: usize)
 }
 
 fn put_guard(part: u32, tape: &mut [u8], k: usize, g: u8)
-    requires { ⌜ Fits (now tape) k 3 × (g ≤ settingLimit) ⌝ }
-    ensures { λ _. ⌜ now (tape .exit) ≡ spliced (now (tape .entry)) (recordLength * k) (encode (threeRecs (0x01 ∷ partOf part .guardBytes g))) ⌝ }
+    requires { ⌜ Fits (now tape) k 3 × (g ≤ partOf part .settingLimit) ⌝ }
+    ensures { λ _. ⌜ now (tape .exit) ≡ spliced (now (tape .entry)) (recordLength * k) (encode (threeRecs (partOf part .guardBytes g))) ⌝ }
 {
-    let w = parts::guard_bytes(part, g);
-    let b = [1, w[0], w[1]];
-    put_three(tape, k, &b);
+    let b = parts::guard_bytes(part, g);
+    let end = parts::guard_length(part, g);
+    put_three(tape, k, &b[0..end]);
 }
 
 // The pages of a lay, in ascending order.
@@ -133,11 +133,11 @@ fn put_lay(tape: &mut [u8], k: usize, s: Span, payload: &[u8])
 }
 
 // The records of a step, from record k on; the answer is the record after them.
-fn put_step(part: u32, tape: &mut [u8], k: usize, w: Step, payload: &[u8]) -> usize
-    requires { ⌜ Writable (partOf part) (now payload) w × Fits (now tape) k (recordCount w) × (k < numberEnd) ⌝ }
-    ensures { λ r. ⌜ (r ≡ k + recordCount w) × (now (tape .exit) ≡ spliced (now (tape .entry)) (recordLength * k) (encode (stepRecs (partOf part) (now (payload .entry)) w))) ⌝ }
+pub fn put_step(part: u32, tape: &mut [u8], k: usize, step: Step, payload: &[u8]) -> usize
+    requires { ⌜ Writable (partOf part) (now payload) step × Fits (now tape) k (recordCount step) × (k < numberEnd) ⌝ }
+    ensures { λ r. ⌜ (r ≡ k + recordCount step) × (now (tape .exit) ≡ spliced (now (tape .entry)) (recordLength * k) (encode (stepRecs (partOf part) (now (payload .entry)) step))) ⌝ }
 {
-    match w {
+    match step {
         Step::EraseAt(u, a) => {
             put_erase(tape, k, u, a);
             k + 3

@@ -1,6 +1,7 @@
 use Rattle.rules.specs.Verdict.{verdictOf}
 use Rattle.rules.specs.Transact.{isHigh, transactTold, transactSeen}
-use Rattle.laws.proofs.Sound.{part-sound, size-some}
+use Rattle.laws.proofs.Sound.{size-some}
+use Rattle.laws.proofs.Parts.{part-sound}
 use Rattle.lists.proofs.Lent.{put-front, front-long}
 use Rattle.rules.specs.declared.Regs.{Regs}
 use Rattle.laws.proofs.Answered.{transact-served, transact-refused, out-after}

@@ -1,4 +1,5 @@
-use Rattle.laws.proofs.Sound.{part-sound, reach-end, unit-end}
+use Rattle.laws.proofs.Sound.{reach-end, unit-end}
+use Rattle.laws.proofs.Parts.{part-sound}
 use Rattle.rules.specs.declared.Write.the-variants.{Program}
 use Rattle.rules.specs.Parts.{partOf}
 use Rattle.rules.specs.Cells.{erased}

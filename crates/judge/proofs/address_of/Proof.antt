@@ -1,4 +1,4 @@
-use Rattle.laws.proofs.Sound.{part-sound}
+use Rattle.laws.proofs.Parts.{part-sound}
 use native.Mathlib.Nat.{mod-lt}
 use native.Mathlib.Omega.{arith}
 use Rattle.rules.specs.Verdict.{addressOf}

@@ -1,4 +1,5 @@
-use Rattle.laws.proofs.Sound.{part-sound, reach-end, size-small}
+use Rattle.laws.proofs.Sound.{reach-end, size-small}
+use Rattle.laws.proofs.Parts.{part-sound}
 use Rattle.laws.specs.Judged.{writeVerdict}
 use Rattle.rules.specs.Parts.{partOf}
 use Rattle.lists.specs.Choice.{if_then_else_}

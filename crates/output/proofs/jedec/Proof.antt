@@ -1,5 +1,4 @@
 use Rattle.lists.proofs.Front.{Front, front-none, front-more, front-all}
-use Rattle.rules.specs.Transaction.{jedecBytes}
 use Rattle.rules.specs.Parts.{partOf}
 use lib.ListN.{length}
 use Prim.Native.Nat.{_-_}
@@ -9,7 +8,7 @@ use Rattle.output.proofs.jedec.Statement.{statement}
 use Rattle.output.proofs.jedec.Tie as tie
 
 abbrev Inv-loop : tie.InvT-loop
-Inv-loop out₀ part i₀ out i = Front (jedecBytes (partOf part)) out₀ out i
+Inv-loop out₀ part i₀ out i = Front (partOf part .jedec) out₀ out i
 
 abbrev μ-loop : tie.MeasureT-loop
 μ-loop out₀ part i₀ out i = length out₀ - i
@@ -30,7 +29,6 @@ loop-less : tie.Need-loop-less Inv-loop μ-loop
 loop-less c = search needs
 
 loop-again : tie.Need-loop-again Inv-loop μ-loop
-unfolding jedecBytes
 loop-again c = let l = c .before .before .loop in front-more _ _ _ _ _ (l .inv) (omega arith) (c .jedec .ensures)
 
 same-length : tie.Need-same-length Inv-loop μ-loop

@@ -1,16 +1,15 @@
-use Rattle.rules.specs.Parts.{partOf}
-use Rattle.rules.specs.Fm25q16.{fm25q16}
-use Rattle.rules.specs.Part.{commandOf}
 use borrow.Author.Needs.{needs}
 use Rattle.parts.proofs.command_of.Statement.{statement}
 use Rattle.parts.proofs.command_of.Tie as tie
 
-command-of-requires : tie.Need-command-of-requires
-command-of-requires c κs = search needs
+row-of-requires : tie.Need-row-of-requires
+row-of-requires c κs = search needs
+
+command-by-requires : tie.Need-command-by-requires
+command-by-requires c κs = search needs
 
 returns : tie.Need-returns
-unfolding commandOf partOf fm25q16
-returns c = c .command-of .ensures
+returns c = rw (← c .before .row-of .ensures) (c .command-by .ensures)
 
 pub command-of-spec : {M : Type 1} → statement M
-command-of-spec = tie.close (tie.spec command-of-requires returns)
+command-of-spec = tie.close (tie.spec row-of-requires command-by-requires returns)

@@ -26,9 +26,6 @@ returns-2 : tie.Need-returns-2
 unfolding replayRefusal if_then_else_
 returns-2 c = simp (← c .before .before .before .before .is-part .ensures, c .before .before .before .if1 .left, ← c .before .before .size-of .ensures, ne-eqb _ _ (c .before .if2 .taken)) (c .refusal2 .ensures)
 
-status-end-requires : tie.Need-status-end-requires
-status-end-requires c κs = search needs
-
 well-formed-requires : tie.Need-well-formed-requires
 well-formed-requires c κs = search needs
 
@@ -37,14 +34,14 @@ refusal-requires-3 c κs = search needs
 
 returns-3 : tie.Need-returns-3
 unfolding replayRefusal if_then_else_
-returns-3 c = simp (← c .before .before .before .before .before .before .before .is-part .ensures, c .before .before .before .before .before .before .if1 .left, ← c .before .before .before .before .before .size-of .ensures, eq-eqb _ _ (c .before .before .before .before .if2 .left), ← c .before .before .before .status-end .ensures, ← c .before .before .well-formed .ensures, c .before .if3 .taken) (c .refusal3 .ensures)
+returns-3 c = simp (← c .before .before .before .before .before .before .is-part .ensures, c .before .before .before .before .before .if1 .left, ← c .before .before .before .before .size-of .ensures, eq-eqb _ _ (c .before .before .before .if2 .left), ← c .before .before .well-formed .ensures, c .before .if3 .taken) (c .refusal3 .ensures)
 
 -- 1, 2 and 3 let pass
-past : (c : tie.Else3) → let a = c .before .before .before .before .before .before .before .before .args in Opened (a .part) (a .al) (a .kept)
+past : (c : tie.Else3) → let a = c .before .before .before .before .before .before .before .args in Opened (a .part) (a .al) (a .kept)
 past c =
-    let d = c .before .before .before in
-    opened-by _ _ _ _ _ _ _ (d .before .before .before .is-part .ensures) (d .before .before .if1 .left) (d .before .size-of .ensures) (d .if2 .left)
-    (c .before .before .status-end .ensures) (c .before .well-formed .ensures) (c .if3 .left)
+    let d = c .before .before in
+    opened-by _ _ _ _ _ _ (d .before .before .before .is-part .ensures) (d .before .before .if1 .left) (d .before .size-of .ensures) (d .if2 .left)
+    (c .before .well-formed .ensures) (c .if3 .left)
 
 is-whole-requires : tie.Need-is-whole-requires
 is-whole-requires c κs = search needs
@@ -73,7 +70,6 @@ refusal-of-spec =
     size-of-requires
     refusal-requires-2
     returns-2
-    status-end-requires
     well-formed-requires
     refusal-requires-3
     returns-3

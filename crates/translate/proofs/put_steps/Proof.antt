@@ -73,7 +73,7 @@ loop-again c =
       c .before .before .put-decoded .kept .1 .0 ∙ l .inv .2,
       subst (λ (k : ℕ). 264 * (k + length (restRecs (a .part) (a .payload .now) (a .job .now) (l .i + 1) (n - (l .i + 1)))) ≤ length (a .tape .now)) (sym u) r,
       subst (λ (k : ℕ). spliced (c .before .before .put-decoded .last .1 .0) (264 * k) (encode (restRecs (a .part) (a .payload .now) (a .job .now) (l .i + 1) (n - (l .i + 1)))) ≡ spliced (a .tape .now) 0 (encode (restRecs (a .part) (a .payload .now) (a .job .now) 0 n))) (sym u)
-          (step-turn (a .part) (a .payload .now) (a .job .now) (l .tape) _ _ (l .i) n (l .k) h can (omega (arith, r, l .inv .2))
+          (step-turn (a .part) (a .payload .now) (a .job .now) (l .tape) _ _ (l .i) n (l .k) h (omega (arith, r, l .inv .2))
           (q .1 ∙ ap (λ (d : Decoded). spliced (l .tape) (264 * l .k) (encode (decodedRecs (partOf (a .part)) (a .payload .now) d))) t) (l .inv .4)),
     )
 

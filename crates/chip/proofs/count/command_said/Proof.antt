@@ -1,11 +1,12 @@
-use Rattle.laws.proofs.Sound.{part-sound}
+use Rattle.laws.proofs.Parts.{part-sound}
+use Rattle.laws.proofs.Sound.{no-byte}
 use mathlib.Core.Path.{sym}
 use borrow.Author.Needs.{needs}
 use Rattle.chip.proofs.count.command_said.Statement.{statement}
 use Rattle.chip.proofs.count.command_said.Tie as tie
 
 returns : tie.Need-returns
-returns c = sym (part-sound (c .before .args .part) .byte-codes (c .before .args .op) (c .if1 .taken))
+returns c = sym (no-byte _ (part-sound (c .before .args .part)) (c .before .args .op) (c .if1 .taken))
 
 cast-command-of : tie.Need-cast-command-of
 cast-command-of c = search needs

@@ -14,9 +14,6 @@ returns : tie.Need-returns
 unfolding eventRefusal if_then_else_
 returns c = simp (← c .before .before .is-part .ensures, c .before .if1 .taken) (c .refusal .ensures)
 
-status-end-requires : tie.Need-status-end-requires
-status-end-requires c κs = search needs
-
 well-formed-requires : tie.Need-well-formed-requires
 well-formed-requires c κs = search needs
 
@@ -25,14 +22,14 @@ refusal-requires-2 c κs = search needs
 
 returns-2 : tie.Need-returns-2
 unfolding eventRefusal if_then_else_
-returns-2 c = simp (← c .before .before .before .before .before .is-part .ensures, c .before .before .before .before .if1 .left, ← c .before .before .before .status-end .ensures, ← c .before .before .well-formed .ensures, c .before .if2 .taken) (c .refusal2 .ensures)
+returns-2 c = simp (← c .before .before .before .before .is-part .ensures, c .before .before .before .if1 .left, ← c .before .before .well-formed .ensures, c .before .if2 .taken) (c .refusal2 .ensures)
 
 refusal-requires-3 : tie.Need-refusal-requires-3
 refusal-requires-3 c κs = search needs
 
 returns-3 : tie.Need-returns-3
 unfolding eventRefusal if_then_else_
-returns-3 c = simp (← c .before .before .before .before .before .is-part .ensures, c .before .before .before .before .if1 .left, ← c .before .before .before .status-end .ensures, ← c .before .before .well-formed .ensures, c .before .if2 .left) (c .refusal3 .ensures)
+returns-3 c = simp (← c .before .before .before .before .is-part .ensures, c .before .before .before .if1 .left, ← c .before .before .well-formed .ensures, c .before .if2 .left) (c .refusal3 .ensures)
 
 pub event-spec : {M : Type 1} → statement M
 event-spec =
@@ -41,7 +38,6 @@ event-spec =
     is-part-requires
     refusal-requires
     returns
-    status-end-requires
     well-formed-requires
     refusal-requires-2
     returns-2

@@ -11,9 +11,6 @@ add-byte-at c = search needs
 byte-at-requires : tie.Need-byte-at-requires
 byte-at-requires c κs = search needs
 
-cast-if1 : tie.Need-cast-if1
-cast-if1 c = search needs
-
 returns : tie.Need-returns
 unfolding decodedGuard if_then_else_
 returns c = rw (← c .before .byte-at .ensures, lt-leb _ _ (c .if1 .taken))
@@ -44,7 +41,6 @@ guard-at-spec =
     (tie.spec
     add-byte-at
     byte-at-requires
-    cast-if1
     returns
     add-are-zeros
     are-zeros-requires

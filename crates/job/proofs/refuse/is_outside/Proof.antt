@@ -14,8 +14,11 @@ enum-known-w-2 c = search needs
 lay-outside-requires : tie.Need-lay-outside-requires
 lay-outside-requires c κs = search needs
 
-enum-told : tie.Need-enum-told
-enum-told c = search needs
+enum-known-w-3 : tie.Need-enum-known-w-3
+enum-known-w-3 c = search needs
+
+setting-limit-requires : tie.Need-setting-limit-requires
+setting-limit-requires c κs = search needs
 
 returns : tie.Need-returns
 returns c = rw (c .before .before .w .given .1) (c .erase-outside .ensures)
@@ -24,7 +27,7 @@ returns-2 : tie.Need-returns-2
 returns-2 c = rw (c .before .before .w2 .given .1) (c .lay-outside .ensures)
 
 returns-3 : tie.Need-returns-3
-returns-3 c = search needs
+returns-3 c = rw (c .before .before .w3 .given .1, ← c .setting-limit .ensures .0)
 
 pub is-outside-spec : {M : Type 1} → statement M
 is-outside-spec =
@@ -34,7 +37,8 @@ is-outside-spec =
     erase-outside-requires
     enum-known-w-2
     lay-outside-requires
-    enum-told
+    enum-known-w-3
+    setting-limit-requires
     returns
     returns-2
     returns-3)

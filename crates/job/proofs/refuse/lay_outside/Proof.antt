@@ -1,4 +1,5 @@
-use Rattle.laws.proofs.Sound.{part-sound, size-small}
+use Rattle.laws.proofs.Sound.{size-small}
+use Rattle.laws.proofs.Parts.{part-sound}
 use Rattle.rules.specs.Parts.{partOf}
 use borrow.Author.Tests.{le-leb, lt-leb, eq-eqb, ne-eqb, lt-ltb, le-ltb}
 use native.Mathlib.Omega.{arith}

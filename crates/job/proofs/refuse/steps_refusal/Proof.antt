@@ -20,18 +20,13 @@ loop-holds c = (omega arith, steps-start _ _ _ _ _)
 step-at-requires : tie.Need-step-at-requires Inv-loop μ-loop
 step-at-requires c κs = search needs
 
-decoded-number-requires : tie.Need-decoded-number-requires Inv-loop μ-loop
-decoded-number-requires c κs = search needs
-
-refusal-at-requires : tie.Need-refusal-at-requires Inv-loop μ-loop
-refusal-at-requires c κs = search needs
+decoded-refusal-requires : tie.Need-decoded-refusal-requires Inv-loop μ-loop
+decoded-refusal-requires c κs = search needs
 
 returns : tie.Need-returns Inv-loop μ-loop
 returns c =
-    let l = c .before .before .before .before .before .loop in
-    c .refusal-at .ensures
-    ∙ sym (steps-stop _ _ _ (l .setting) (l .i) _ _ _ (omega arith) (c .before .before .before .step-at .ensures) (c .before .before .decoded-number .ensures) (c .before .if1 .taken))
-    ∙ l .inv .1
+    let l = c .before .before .before .before .loop in
+    sym (steps-stop _ _ _ (l .setting) (l .i) _ _ _ (omega arith) (c .before .before .step-at .ensures) (c .before .decoded-refusal .ensures) (c .if1 .taken)) ∙ l .inv .1
 
 setting-after-requires : tie.Need-setting-after-requires Inv-loop μ-loop
 setting-after-requires c κs = search needs
@@ -46,7 +41,7 @@ loop-again : tie.Need-loop-again Inv-loop μ-loop
 loop-again c =
     let l = c .before .before .before .before .before .loop in (
       omega arith,
-      sym (steps-go _ _ _ (l .setting) (l .i) _ _ _ _ (omega arith) (c .before .before .before .step-at .ensures) (c .before .before .decoded-number .ensures) (c .before .if1 .left) (c .setting-after .ensures)) ∙ l .inv .1,
+      sym (steps-go _ _ _ (l .setting) (l .i) _ _ _ _ (omega arith) (c .before .before .before .step-at .ensures) (c .before .before .decoded-refusal .ensures) (c .before .if1 .left) (c .setting-after .ensures)) ∙ l .inv .1,
     )
 
 refusal-requires : tie.Need-refusal-requires Inv-loop μ-loop
@@ -63,8 +58,7 @@ steps-refusal-spec =
     μ-loop
     loop-holds
     step-at-requires
-    decoded-number-requires
-    refusal-at-requires
+    decoded-refusal-requires
     returns
     setting-after-requires
     add-i

@@ -1,6 +1,6 @@
 use Prim.Native.Nat.{_%_, ℕ, _≤_}
 use lib.ListN.{getD}
-use Rattle.laws.proofs.Sound.{fm-area-small}
+use Rattle.laws.proofs.Fm25q16.{fm-area-small}
 use Rattle.rules.specs.Fm25q16.{fmSec0, fmSec1, fmArea}
 use Rattle.lists.specs.Choice.{if_then_else_}
 use borrow.Author.Tests.{ne-eqb}
