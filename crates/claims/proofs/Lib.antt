@@ -8,6 +8,7 @@ pub mod Programs
 pub mod Stays
 pub mod Allowed
 pub mod Table
+pub mod Fm25q16
 pub mod ProtectionTable
 pub mod RoundTrip
 pub mod Formed

@@ -1,5 +1,7 @@
 // The FM25Q16's description as code, table by table.
+use crate::rows::exactly;
 use crate::rows::line;
+use crate::rows::or_more;
 use rules::Bytes;
 use rules::EraseUnit;
 use rules::Kind;
@@ -37,78 +39,33 @@ pub fn row_of(op: u8) -> Listed
     ensures { λ r. ⌜ r ≡ rowIn fmCommands op ⌝ }
 {
     match op {
-        0x06 => line(0x06, Kind::WriteEnable, Bytes::Exactly(1), Leftover::NoBits),
-        0x04 => line(
-            0x04,
-            Kind::WriteDisable,
-            Bytes::Exactly(1),
-            Leftover::NoBits,
-        ),
-        0x05 => line(
-            0x05,
-            Kind::ReadStatusLow,
-            Bytes::OrMore(1),
-            Leftover::AnyBits,
-        ),
-        0x35 => line(
-            0x35,
-            Kind::ReadStatusHigh,
-            Bytes::OrMore(1),
-            Leftover::AnyBits,
-        ),
+        0x06 => exactly(0x06, Kind::WriteEnable, 1),
+        0x04 => exactly(0x04, Kind::WriteDisable, 1),
+        0x05 => or_more(0x05, Kind::ReadStatusLow, 1),
+        0x35 => or_more(0x35, Kind::ReadStatusHigh, 1),
         0x01 => line(
             0x01,
             Kind::Writes(Write::WriteStatus),
             Bytes::Either(2, 3),
             Leftover::NoBits,
         ),
-        0x03 => line(0x03, Kind::Read, Bytes::OrMore(4), Leftover::AnyBits),
-        0x0B => line(0x0B, Kind::FastRead, Bytes::OrMore(5), Leftover::AnyBits),
+        0x03 => or_more(0x03, Kind::Read, 4),
+        0x0B => or_more(0x0B, Kind::FastRead, 5),
         0x02 => line(
             0x02,
             Kind::Writes(Write::Program),
             Bytes::OrMore(5),
             Leftover::NoBits,
         ),
-        0x20 => line(
-            0x20,
-            Kind::Writes(Write::Erase(EraseUnit::Sector)),
-            Bytes::Exactly(4),
-            Leftover::NoBits,
-        ),
-        0x52 => line(
-            0x52,
-            Kind::Writes(Write::Erase(EraseUnit::Block32)),
-            Bytes::Exactly(4),
-            Leftover::NoBits,
-        ),
-        0xD8 => line(
-            0xD8,
-            Kind::Writes(Write::Erase(EraseUnit::Block64)),
-            Bytes::Exactly(4),
-            Leftover::NoBits,
-        ),
-        0xC7 => line(
-            0xC7,
-            Kind::Writes(Write::Erase(EraseUnit::Chip)),
-            Bytes::Exactly(1),
-            Leftover::NoBits,
-        ),
-        0x60 => line(
-            0x60,
-            Kind::Writes(Write::Erase(EraseUnit::Chip)),
-            Bytes::Exactly(1),
-            Leftover::NoBits,
-        ),
-        0xB9 => line(0xB9, Kind::Sleep, Bytes::Exactly(1), Leftover::NoBits),
-        0xAB => line(0xAB, Kind::Wake, Bytes::OrMore(1), Leftover::AnyBits),
-        0x90 => line(
-            0x90,
-            Kind::ReadMakerDevice,
-            Bytes::OrMore(4),
-            Leftover::AnyBits,
-        ),
-        0x9F => line(0x9F, Kind::ReadJedec, Bytes::OrMore(1), Leftover::AnyBits),
+        0x20 => exactly(0x20, Kind::Writes(Write::Erase(EraseUnit::Sector)), 4),
+        0x52 => exactly(0x52, Kind::Writes(Write::Erase(EraseUnit::Block32)), 4),
+        0xD8 => exactly(0xD8, Kind::Writes(Write::Erase(EraseUnit::Block64)), 4),
+        0xC7 => exactly(0xC7, Kind::Writes(Write::Erase(EraseUnit::Chip)), 1),
+        0x60 => exactly(0x60, Kind::Writes(Write::Erase(EraseUnit::Chip)), 1),
+        0xB9 => exactly(0xB9, Kind::Sleep, 1),
+        0xAB => or_more(0xAB, Kind::Wake, 1),
+        0x90 => or_more(0x90, Kind::ReadMakerDevice, 4),
+        0x9F => or_more(0x9F, Kind::ReadJedec, 1),
         _ => Listed::Unlisted,
     }
 }

@@ -20,6 +20,20 @@ pub fn line(code: u8, kind: Kind, bytes: Bytes, leftover: Leftover) -> Listed
     })
 }
 
+// Exactly so many bytes, and no leftover bits.
+pub fn exactly(code: u8, kind: Kind, count: usize) -> Listed
+    ensures { λ r. ⌜ r ≡ Listed.Line (row code kind (Bytes.Exactly count) Leftover.NoBits) ⌝ }
+{
+    line(code, kind, Bytes::Exactly(count), Leftover::NoBits)
+}
+
+// So many bytes or more, whatever is left over.
+pub fn or_more(code: u8, kind: Kind, count: usize) -> Listed
+    ensures { λ r. ⌜ r ≡ Listed.Line (row code kind (Bytes.OrMore count) Leftover.AnyBits) ⌝ }
+{
+    line(code, kind, Bytes::OrMore(count), Leftover::AnyBits)
+}
+
 fn takes(bytes: Bytes, n: usize) -> bool
     ensures { λ r. ⌜ r ≡ takes bytes n ⌝ }
 {
