@@ -1,14 +1,15 @@
 -- What the rules make of each row is what the row expects.
 use mathlib.Core.Path.{_≡_, refl, ap}
-use mathlib.Core.Bool.{Bool, true, false}
+use mathlib.Core.Bool.{false, _&&_}
 use mathlib.Core.List.{List, [], _∷_, map}
-use Prim.Native.Nat.{ℕ}
+use Prim.Native.Nat.{ℕ, _<_}
 use native.Mathlib.Omega.{arith}
 use borrow.Author.Tests.{lt-leb}
-use Rattle.lists.specs.Choice.{if_then_else_}
-use Rattle.lists.specs.Places.{tabulateFrom, tabulate, firstIn, everyIn}
+use Rattle.lists.specs.Choice.{if_then_else_, _<?_, _≤?_}
+use Rattle.lists.specs.Places.{firstIn, everyIn}
 use Rattle.rules.specs.declared.Kept.{Kept}
 use Rattle.rules.specs.declared.Refusal.{Refusal}
+use Rattle.rules.specs.declared.Kind.the-variants.{ReadJedec}
 use Rattle.rules.specs.declared.EraseUnit.the-variants.{Block64}
 use Rattle.rules.specs.declared.Step.the-variants.{EraseAt, Guard}
 use Rattle.rules.specs.Kinds.{ofWrite, ofKnown}
@@ -18,7 +19,7 @@ use Rattle.rules.specs.WellFormed.{wordFormed, awakeFormed, wellFormed}
 use Rattle.rules.specs.Protection.{isProtected, firstProtected, someProtected}
 use Rattle.rules.specs.Writes.{locked}
 use Rattle.rules.specs.Verdict.{addressOf, unheardAsleep, unheardBusy, verdictOf, verdictTold}
-use Rattle.rules.specs.Transaction.{fromPlace, turnOf}
+use Rattle.rules.specs.Transaction.{fromPlace, drivenAt}
 use Rattle.rules.specs.Refusals.{refusal, refusalAt, _orElse_}
 use Rattle.rules.specs.Job.{stepCount, unitBy, decodedErase, decodedLay, decodedGuard, decodedAt, allRegsMeant}
 use Rattle.rules.specs.JobRefusals.{shielded, stepRefusal, stepsRefusal}
@@ -59,11 +60,17 @@ unfolding madeup allRegsMeant regsOf keptOf statusOf if_then_else_
 guard-sets = refl
 
 -- 9F drives its one byte for ever
-pub identifies : turnOf madeup (regsOf (awakeAt 0x00)) [] (0x9F ∷ 0 ∷ 0 ∷ 0 ∷ 0 ∷ []) 0 false .out ≡ 0xFF ∷ 0x15 ∷ 0x15 ∷ 0x15 ∷ 0x15 ∷ []
-unfolding madeup muCommands muHeardAsleep muHeardBusy muJedec regsOf takes leaves rowIn rowOf verdictOf turnOf unheardAsleep unheardBusy fromPlace tabulate tabulateFrom ofWrite ofKnown if_then_else_
+pub identifies : map (drivenAt madeup (regsOf (awakeAt 0x00)) [] [] ReadJedec) (0 ∷ 1 ∷ 2 ∷ 3 ∷ 4 ∷ []) ≡ 0xFF ∷ 0x15 ∷ 0x15 ∷ 0x15 ∷ 0x15 ∷ []
+unfolding madeup muJedec fromPlace if_then_else_
 identifies = refl
 
 -- a block below the area is erased: said of each of its bytes, so that none is counted
+below : (lo hi x : ℕ) → x < lo → ((lo ≤? x) && (x <? hi)) ≡ false
+below lo hi x h = rw (lt-leb lo x h)
+
+near : (x : ℕ) → x < 131072 → x < 983040
+near x h = omega arith
+
 pub block-erased : stepRefusal madeup 15 0 0 (EraseAt Block64 0x012345) ≡ refusal 0
 unfolding madeup muErases muLo muHi stepRefusal isProtected if_then_else_
-block-erased = ap (shielded 0) (bare-none madeup 15 0x010000 65536 (λ x h k. rw (lt-leb 983040 x (omega arith)) refl))
+block-erased = ap (shielded 0) (bare-none madeup 15 0x010000 65536 (λ x h k. below 983040 1048576 x (near x k)))

@@ -19,6 +19,7 @@ readings =
     -- what it offers
     sent 0x00 (0x06 ∷ []) 0
     ∷ sent 0x00 (0x25 ∷ 0x00 ∷ []) 0
+    ∷ sent 0x00 (0x9F ∷ 0x00 ∷ []) 0
     ∷ sent 0x02 (0x01 ∷ 0x04 ∷ []) 0
     -- what it lacks: sleep, 35, 0B, and the two small erases
     ∷ sent 0x00 (0xB9 ∷ []) 12
