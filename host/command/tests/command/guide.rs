@@ -105,6 +105,8 @@ fn the_walk_is_true() {
     }
     assert!(typed_lines > 15, "the walk has been found");
     assert_eq!(beside.is_some(), flashrom, "and the server's");
-    beside.map_or((), Beside::end);
+    if let Some(beside) = beside {
+        beside.end();
+    }
     assert!(folder.path.join("bill.svg").is_file());
 }
