@@ -52,7 +52,7 @@ struct Beside {
 impl Beside {
     fn start(folder: &Folder, lines: &[&str]) -> Beside {
         let (call, told) = calls(lines).remove(0);
-        let options = call.strip_prefix("tunebriar serve tunebriar.pool ");
+        let options = call.strip_prefix("tunebriar serve ");
         let options = options.expect("a server").replace(PLACE, "127.0.0.1:0");
         let mut server = Server::spawn(folder, &options);
         let first = server.line();

@@ -67,7 +67,7 @@ fn the_buffers_are_as_large_as_told() {
             let told = client.take(3);
             let size = usize::from(u16::from_le_bytes([told[1], told[2]]));
             assert_eq!(told[0], ACK);
-            assert!(size >= 267, "{question}: an operation fits: {size}");
+            assert!(size >= 260, "{question}: an operation fits: {size}");
             client.answers(&vec![NOP; size], &vec![ACK; size]);
         }
     });

@@ -128,7 +128,9 @@ fn words_that_say_nothing() {
     let folder = Folder::with_month("serve-words");
     for (line, word) in [
         ("", "<BOARD>"),
-        ("c", "there is no board 'c'"),
+        ("tunebriar.pool", "there is no board 'tunebriar.pool'"),
+        ("tunebriar.pool c", "there is no board 'c'"),
+        ("other.pool b", "other.pool"),
         ("b --listen", "--listen"),
         ("b --listen here", "'here'"),
         ("b --listen 127.0.0.1", "'127.0.0.1'"),
@@ -155,7 +157,6 @@ fn words_that_say_nothing() {
     assert!(folder.names() == ["prices.txt", "tunebriar.pool"]);
 }
 
-/// A board that no chip can be is told before anyone is served.
 #[test]
 fn a_pool_that_is_none() {
     let folder = Folder::new("serve-no-pool");

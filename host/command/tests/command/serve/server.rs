@@ -42,7 +42,7 @@ impl Server {
     }
 
     pub fn of(folder: &Folder, board: &str, options: &str) -> Server {
-        let line = format!("{board} {options}");
+        let line = format!("tunebriar.pool {board} {options}");
         let mut server = Server::spawn(folder, &line);
         let told = server.line();
         let place = told.strip_prefix(&format!("serving {board} on "));
@@ -55,8 +55,8 @@ impl Server {
     /// A server that may not come to serve at all.
     pub fn spawn(folder: &Folder, line: &str) -> Server {
         let mut command = folder.command();
-        command.args(["serve", "tunebriar.pool"]);
-        command.args(line.split_whitespace()).stdin(Stdio::null());
+        command.arg("serve").args(line.split_whitespace());
+        command.stdin(Stdio::null());
         command.stdout(Stdio::piped()).stderr(Stdio::piped());
         let mut child = command.spawn().expect("it runs");
         let out = BufReader::new(child.stdout.take().expect("its output"));
@@ -140,7 +140,7 @@ impl Session {
     }
 
     fn of(line: &str) -> Session {
-        let number = |word: &str| word.replace(',', "").parse::<u64>().ok();
+        let number = |word: &str| word.replace([',', ';'], "").parse::<u64>().ok();
         let after = |name: &str| {
             let rest = line.split(name).nth(1)?;
             number(rest.split_whitespace().next()?)
