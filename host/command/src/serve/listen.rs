@@ -110,7 +110,7 @@ impl Door for Listen {
         let Some(mut client) = self.client.take() else {
             return Ok(());
         };
-        if matches!(end, End::Gone | End::Cut | End::Stopped) {
+        if !end.is_final() {
             return Ok(());
         }
         let _ = client.shutdown(Shutdown::Write);

@@ -8,6 +8,7 @@ pub mod end;
 pub mod finish;
 pub mod listen;
 pub mod protocol;
+pub mod pty;
 pub mod session;
 #[allow(unsafe_code, reason = "the system is called here and nowhere else")]
 pub mod system;
@@ -26,6 +27,7 @@ use door::Door;
 use end::End;
 use finish::Finish;
 use listen::Listen;
+use pty::Pty;
 use serde_json::{Value, json};
 use session::{How, Kept, Session};
 use std::net::SocketAddr;
@@ -54,6 +56,9 @@ pub struct Serve {
     #[arg(long, value_name = "ADDRESS:PORT", default_value = "127.0.0.1:0")]
     #[arg(value_parser = listen::address)]
     listen: SocketAddr,
+    /// A pseudo-terminal in place of a port
+    #[arg(long, conflicts_with = "listen")]
+    pty: bool,
     /// When a busy chip is done: 'after-status-reads N' that still see BUSY, or 'at-once'
     #[arg(long, num_args = 1..=2, value_names = ["WHEN", "N"])]
     #[arg(default_values = ["after-status-reads", "1"])]
@@ -102,7 +107,7 @@ impl Serve {
         pool.path = self.file.clone().unwrap_or(pool.path);
         pool.open()?.read(|book| boards::find(book, &self.board))?;
         let stop = Stop::signals()?;
-        let mut door = Listen::open(self.listen)?;
+        let mut door = self.door()?;
         self.begun(door.name()).tell(json)?;
         let mut sessions = 0;
         while let Some(file) = door.next(&stop)? {
@@ -120,6 +125,13 @@ impl Serve {
         }
         let json = json!({ "board": self.board, "sessions": sessions });
         Ok(Told::new(String::new(), json))
+    }
+
+    fn door(&self) -> Result<Box<dyn Door>, Error> {
+        Ok(match self.pty {
+            true => Box::new(Pty::open()?),
+            false => Box::new(Listen::open(self.listen)?),
+        })
     }
 
     fn how(&self) -> Result<How, Error> {

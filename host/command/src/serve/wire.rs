@@ -43,6 +43,15 @@ impl Stop {
         Stop(stop)
     }
 
+    /// Waits for so long; whether the server is told to end meanwhile.
+    ///
+    /// # Errors
+    ///
+    /// Where the system cannot wait.
+    pub fn pause(&self, long: Duration) -> io::Result<bool> {
+        Ok(self.wait(&self.0, PollFlags::IN, Some(long))? == Waited::Stopped)
+    }
+
     /// Waits until something can be read or written, for `most` at the most.
     ///
     /// # Errors
