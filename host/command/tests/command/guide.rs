@@ -43,43 +43,56 @@ fn calls<'a>(lines: &[&'a str]) -> Vec<(&'a str, String)> {
     calls
 }
 
-/// The server of the guide's other terminal, and what it has to say until it ends.
+/// The server of the guide's other terminal: what it has said, and is to say.
 struct Beside {
     server: Server,
+    said: String,
     told: String,
 }
 
 impl Beside {
     fn start(folder: &Folder, lines: &[&str]) -> Beside {
         let (call, told) = calls(lines).remove(0);
-        let options = call.strip_prefix("tunebriar serve ");
-        let options = options.expect("a server").replace(PLACE, "127.0.0.1:0");
-        let mut server = Server::spawn(folder, &options);
-        let first = server.line();
-        server.place = first.rsplit(' ').next().expect("a place").to_string();
-        let rest = told.split_once('\n').expect("more lines").1.to_string();
-        assert_eq!(first.replace(&server.place, PLACE) + "\n" + &rest, told);
-        Beside { server, told: rest }
+        let options = call.strip_prefix("tunebriar serve ").expect("a server");
+        let mut server = Server::spawn(folder, &options.replace(PLACE, "127.0.0.1:0"));
+        let said = server.line() + "\n";
+        server.place = said.trim_end().rsplit(' ').next().expect("a place").into();
+        Beside { server, said, told }
+    }
+
+    /// A client has gone: its play is in the book when its line is there.
+    fn session(&mut self) {
+        let mut line = String::new();
+        while !line.contains(" transactions, ") {
+            line = self.server.line();
+            self.said += &format!("{line}\n");
+        }
     }
 
     /// Told to end, it has said all of it.
     fn end(self) {
         self.server.signal("INT");
+        let place = self.server.place.clone();
         let (status, lines, complaint) = self.server.ended();
-        let said: String = lines.iter().map(|line| format!("{line}\n")).collect();
-        assert_eq!(
-            (said, status, complaint),
-            (self.told, Some(0), String::new())
-        );
+        let rest: String = lines.iter().map(|line| format!("{line}\n")).collect();
+        assert_eq!((self.said + &rest).replace(&place, PLACE), self.told);
+        assert_eq!((status, complaint), (Some(0), String::new()));
     }
 }
 
 /// Types one line into a shell, both outputs together.
-fn typed(folder: &Folder, line: &str, beside: Option<&Beside>) -> String {
-    let place = beside.map_or(PLACE, |beside| &beside.server.place);
+fn typed(folder: &Folder, line: &str, beside: Option<&mut Beside>) -> String {
+    let Some(beside) = beside else {
+        return folder.shell(&format!("exec 2>&1; {line}")).out;
+    };
+    let place = &beside.server.place;
     let line = line.replace(PLACE, place);
     let told = folder.shell(&format!("exec 2>&1; {line}")).out;
-    told.replace(place, PLACE)
+    let told = told.replace(place, PLACE);
+    if line.starts_with("flashrom ") {
+        beside.session();
+    }
+    told
 }
 
 #[test]
@@ -99,7 +112,7 @@ fn the_walk_is_true() {
             continue;
         }
         for (call, told) in calls(&lines) {
-            assert_eq!(typed(&folder, call, beside.as_ref()), told, "{call}");
+            assert_eq!(typed(&folder, call, beside.as_mut()), told, "{call}");
             typed_lines += 1;
         }
     }
