@@ -78,6 +78,10 @@ pub struct Serve {
     idle: u32,
 }
 
+/// How long a session that is over waits for calls that read the book: longer than
+/// any of them takes.
+const READERS: Duration = Duration::from_secs(86_400);
+
 /// Maker, type and size, as 9F tells them.
 type Id = [u8; 3];
 
@@ -150,6 +154,8 @@ impl Serve {
                 bench.take(boards::find(book, &self.board)?)?;
                 let mut session = Session::new(&mut bench, how);
                 let end = talk::talk(wire, &mut session);
+                // Nobody can do it again, so whoever reads the book is waited for.
+                book.busy_timeout(READERS)?;
                 let kept = session.keep(&mut bench, name)?;
                 let transactions = session.transactions;
                 Ok(Over {

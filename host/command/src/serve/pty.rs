@@ -125,3 +125,77 @@ impl Door for Pty {
         parted.map_err(|error| closed(&self.name, &error))
     }
 }
+
+#[cfg(test)]
+mod tests {
+    use super::*;
+    use crate::serve::wire::Wire;
+    use std::io::Write;
+    use std::os::fd::OwnedFd;
+    use std::os::unix::net::UnixStream;
+
+    const SOON: Duration = Duration::from_secs(20);
+
+    /// As many bytes as `all` has, once they are there.
+    fn taken(stop: &Stop, mut client: &File, all: &[u8]) -> Vec<u8> {
+        let mut bytes = Vec::new();
+        while bytes.len() < all.len() {
+            let waited = stop.wait(client, PollFlags::IN, Some(SOON));
+            assert!(matches!(waited, Ok(Waited::Ready(_))), "{bytes:02X?}");
+            let mut some = vec![0; all.len() - bytes.len()];
+            let count = client.read(&mut some).expect("bytes");
+            bytes.extend(&some[..count]);
+        }
+        bytes
+    }
+
+    #[test]
+    fn bytes_go_through_as_they_are_and_none_is_left_for_the_next() {
+        let (_ends, stop) = UnixStream::pair().expect("a pair");
+        let stop = Stop::of(OwnedFd::from(stop).into());
+        let mut pty = Pty::open().expect("a pseudo-terminal");
+        // Among them those that a terminal makes something else of.
+        let all: Vec<u8> = (0..=255).collect();
+        for _ in 0..3 {
+            let mut client = open(&pty.path).expect("opened");
+            client.write_all(&all).expect("sent");
+            let file = pty.next(&stop).expect("a line").expect("a client");
+            assert_eq!(taken(&stop, &file, &all), all);
+            let wire = Wire {
+                file,
+                stop: &stop,
+                idle: SOON,
+            };
+            wire.say(&all).expect("said");
+            assert_eq!(taken(&stop, &client, &all), all);
+            wire.say(b"for nobody").expect("said");
+            drop(client);
+            assert_eq!(wire.hear(&mut [0]), Err(End::Gone));
+            pty.part(&stop, End::Gone).expect("parted");
+        }
+    }
+
+    #[test]
+    fn a_client_that_has_to_go_is_not_heard() {
+        let (_ends, stop) = UnixStream::pair().expect("a pair");
+        let stop = Stop::of(OwnedFd::from(stop).into());
+        let mut pty = Pty::open().expect("a pseudo-terminal");
+        let mut client = open(&pty.path).expect("opened");
+        client.write_all(&[0xEE; 2_000]).expect("sent");
+        drop(client);
+        pty.part(&stop, End::Strange).expect("parted");
+        let mut client = open(&pty.path).expect("opened");
+        client.write_all(&[0x10]).expect("sent");
+        let file = pty.next(&stop).expect("a line").expect("a client");
+        assert_eq!(taken(&stop, &file, &[0x10]), [0x10]);
+    }
+
+    #[test]
+    fn a_server_that_is_told_to_end_waits_for_nobody() {
+        let (mut ends, stop) = UnixStream::pair().expect("a pair");
+        let stop = Stop::of(OwnedFd::from(stop).into());
+        let mut pty = Pty::open().expect("a pseudo-terminal");
+        ends.write_all(&[0]).expect("told");
+        assert!(pty.next(&stop).expect("no fault").is_none());
+    }
+}
