@@ -23,6 +23,7 @@ fn recorded(name: &str, policy: &str, done: impl Fn(&mut Client<TcpStream>)) -> 
 fn the_status_read_that_is_told_sees_busy_last() {
     for (policy, polls, told) in [
         ("", 1, "06 02 05 F 05"),
+        ("--finish after-status-reads", 1, "06 02 05 F 05"),
         ("--finish after-status-reads 1", 1, "06 02 05 F 05"),
         ("--finish after-status-reads 2", 2, "06 02 05 05 F 05"),
         ("--finish after-status-reads 3", 3, "06 02 05 05 05 F 05"),

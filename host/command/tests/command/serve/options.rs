@@ -138,7 +138,6 @@ fn words_that_say_nothing() {
         ("b --listen 127.0.0.1:0 --pty", "--pty"),
         ("b --finish", "--finish"),
         ("b --finish soon", "soon"),
-        ("b --finish after-status-reads", "after-status-reads"),
         ("b --finish after-status-reads 0", "0"),
         ("b --finish after-status-reads one", "one"),
         ("b --finish at-once 1", "1"),

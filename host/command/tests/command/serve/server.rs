@@ -10,6 +10,8 @@ use std::thread::{sleep, spawn};
 use std::time::{Duration, Instant};
 
 pub struct Server {
+    /// The words that it was started with.
+    call: String,
     child: Child,
     lines: Receiver<String>,
     /// Where it serves: address and port, or the terminal's name.
@@ -66,8 +68,9 @@ impl Server {
                 let _ = told.send(line);
             }
         });
-        let place = String::new();
+        let (call, place) = (line.to_string(), String::new());
         Server {
+            call,
             child,
             lines,
             place,
@@ -98,7 +101,8 @@ impl Server {
 
     /// Waits for its end: its exit status, what it said since, what it complained of.
     pub fn ended(mut self) -> (Option<i32>, Vec<String>, String) {
-        let status = until("an end", || self.child.try_wait().expect("a status"));
+        let what = format!("an end of serve {}", self.call);
+        let status = until(&what, || self.child.try_wait().expect("a status"));
         let lines = self.lines.iter().collect();
         let complaint = self.complaint();
         (status.code(), lines, complaint)
