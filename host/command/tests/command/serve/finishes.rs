@@ -92,21 +92,25 @@ fn an_ignored_write_has_no_finish() {
 }
 
 /// A client that goes while the chip is busy leaves it so; the next one's status
-/// reads finish it.
+/// reads finish it, by any policy.
 #[test]
 fn a_chip_left_busy_is_finished_by_the_next() {
-    let folder = Folder::with_month("serve-left-busy");
-    let mut server = Server::start(&folder, "");
-    let mut client = server.client();
-    client.write(&[2, 0, 0, 0, 1]);
-    client.leave();
-    server.session();
-    assert_eq!(folder.json("board show b")["state"]["status"], 3);
-    let mut client = server.client();
-    assert_eq!(client.polled(), 1);
-    client.leave();
-    server.session();
-    assert_eq!(records(&folder), ["06 02", "05 F 05"]);
-    assert_eq!(meter(&folder, "b"), [1, 0, 0, 0]);
-    folder.whole("2026-11");
+    for (name, policy) in [("reads", ""), ("at-once", "--finish at-once")] {
+        let folder = Folder::with_month(&format!("serve-left-busy-{name}"));
+        let mut server = Server::start(&folder, "--once");
+        let mut client = server.client();
+        client.write(&[2, 0, 0, 0, 1]);
+        client.leave();
+        server.session();
+        server.ended_well();
+        assert_eq!(folder.json("board show b")["state"]["status"], 3);
+        let mut server = Server::start(&folder, policy);
+        let mut client = server.client();
+        assert_eq!(client.polled(), 1, "{policy}");
+        client.leave();
+        server.session();
+        assert_eq!(records(&folder), ["06 02", "05 F 05"], "{policy}");
+        assert_eq!(meter(&folder, "b"), [1, 0, 0, 0]);
+        folder.whole("2026-11");
+    }
 }

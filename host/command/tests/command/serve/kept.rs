@@ -1,7 +1,7 @@
 //! The book while a session has it: nobody comes between, and it is kept whole or
 //! not at all.
 
-use super::client::{ACK, NAK, spiop};
+use super::client::{ACK, NAK, SYNCNOP, spiop};
 use super::server::{Server, Session, until};
 use super::{meter, plays, records};
 use crate::common::{Folder, program};
@@ -119,6 +119,24 @@ fn a_session_waits_for_other_calls() {
     assert_eq!(client.take(4), [ACK, 0xF8, 0x32, 0x15]);
     client.leave();
     assert_eq!(server.session(), Session::new(1, [0; 4]));
+    folder.whole("2026-11");
+}
+
+/// And no longer than `--wait`: then there is no session, and the server says so.
+#[test]
+fn a_session_does_not_wait_for_ever() {
+    let folder = Folder::with_month("serve-waited");
+    let server = Server::start(&folder, "--wait 0");
+    let book = folder.book();
+    book.execute_batch("BEGIN IMMEDIATE").expect("taken");
+    let mut client = server.client();
+    client.send(&[SYNCNOP]);
+    assert!(client.rest().is_empty());
+    let (status, _, complaint) = server.ended();
+    assert_eq!(status, Some(1), "{complaint}");
+    assert!(complaint.contains("the pool is in use by another call"), "{complaint}");
+    book.execute_batch("ROLLBACK").expect("given back");
+    assert_eq!(plays(&folder), 0);
     folder.whole("2026-11");
 }
 

@@ -3,8 +3,9 @@
 
 use super::client::Client;
 use super::server::Server;
-use super::{meter, records, tapes};
+use super::{counts, meter, records, tapes};
 use crate::common::Folder;
+use serde_json::Value;
 use std::net::{Ipv4Addr, TcpListener};
 
 #[test]
@@ -95,6 +96,24 @@ fn the_port_that_is_asked_for() {
     }
 }
 
+/// For programs, a line is JSON.
+#[test]
+fn lines_for_programs() {
+    let folder = Folder::with_month("serve-json");
+    let mut server = Server::spawn(&folder, "b --once --json --answer-id A14015");
+    let mut line = || serde_json::from_str::<Value>(&server.line()).expect("JSON");
+    let started = line();
+    let place = started["serving"].as_str().expect("a place");
+    assert_eq!(started["answer_id"], "A1 40 15", "{started}");
+    let mut client = Client::connect(place);
+    client.spi(&[0x77], 0);
+    client.leave();
+    let session = line();
+    assert_eq!((&session["transactions"], &session["play"]), (&1.into(), &1.into()));
+    assert_eq!(counts(&session["rise"]), [0, 0, 0, 1], "{session}");
+    server.ended_well();
+}
+
 /// A call that must not serve: its exit status, and one line that says why.
 fn says(folder: &Folder, line: &str, status: i32, words: &[&str]) {
     let (ended, lines, complaint) = Server::spawn(folder, line).ended();
@@ -138,7 +157,7 @@ fn words_that_say_nothing() {
         ("b --listen 127.0.0.1:0 --pty", "--pty"),
         ("b --finish", "--finish"),
         ("b --finish soon", "soon"),
-        ("b --finish after-status-reads 0", "0"),
+        ("b --finish after-status-reads 0", "counts from 1"),
         ("b --finish after-status-reads one", "one"),
         ("b --finish at-once 1", "1"),
         ("b --answer-id", "--answer-id"),

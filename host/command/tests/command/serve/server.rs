@@ -88,6 +88,13 @@ impl Server {
         Session::of(&self.line())
     }
 
+    /// The same of a session that ended in an unusual way, which is told too.
+    pub fn session_ended(&mut self, why: &str) -> Session {
+        let line = self.line();
+        assert!(line.ends_with(&format!("; {why}")), "{line}");
+        Session::of(&line)
+    }
+
     pub fn client(&self) -> Client<TcpStream> {
         Client::connect(&self.place)
     }

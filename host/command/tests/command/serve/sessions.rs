@@ -2,6 +2,7 @@
 
 use super::client::{ACK, NAK, SYNCNOP};
 use super::server::{Server, Session};
+use super::streams::never_reads;
 use super::{meter, plays, records};
 use crate::common::Folder;
 
@@ -101,10 +102,29 @@ fn told_to_end_in_a_session() {
         client.send(&super::client::spiop(&[0x77], 0)[..5]);
         server.signal(signal);
         client.rest();
-        assert_eq!(server.session(), Session::new(4, [1, 0, 0, 0]));
+        let session = server.session_ended("told to end");
+        assert_eq!(session, Session::new(4, [1, 0, 0, 0]));
         server.ended_well();
         assert_eq!(meter(&folder, "b"), [u64::from(place), 0, 0, 0]);
     }
     assert_eq!(records(&folder), ["06 02 05 F 05"; 2]);
+    folder.whole("2026-11");
+}
+
+/// Not even a client that takes no answer keeps it from that.
+#[test]
+fn told_to_end_while_nobody_listens() {
+    let folder = Folder::with_month("serve-end-deaf");
+    let mut server = Server::start(&folder, "");
+    let mut client = server.client();
+    client.spi(&[0x77], 0);
+    never_reads(&mut client);
+    let waiting = server.client();
+    server.signal("TERM");
+    let session = server.session_ended("told to end");
+    assert_eq!(session, Session::new(1, [0, 0, 0, 1]));
+    server.ended_well();
+    drop((client, waiting));
+    assert_eq!(records(&folder), ["77"]);
     folder.whole("2026-11");
 }

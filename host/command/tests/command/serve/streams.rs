@@ -69,7 +69,8 @@ fn sixteen_unknown_in_a_row_are_no_serprog() {
     }
     client.send(&[0xF0; 16]);
     assert_eq!(client.rest(), [NAK; 16]);
-    assert_eq!(server.session(), Session::new(1, [0, 0, 0, 1]));
+    let session = server.session_ended("what came is no serprog");
+    assert_eq!(session, Session::new(1, [0, 0, 0, 1]));
     serves_on(&mut server);
     folder.whole("2026-11");
 }
@@ -147,7 +148,8 @@ fn a_client_that_vanishes_loses_nothing() {
     client.spi(&[0x77], 0);
     client.send(&header(200, 0));
     drop(client);
-    assert_eq!(server.session(), Session::new(1, [0, 0, 0, 1]));
+    let session = server.session_ended("the client went inside a command");
+    assert_eq!(session, Session::new(1, [0, 0, 0, 1]));
     assert_eq!(meter(&folder, "b"), [8, 0, 0, 1]);
     assert_eq!(plays(&folder), 9);
     let array = folder.array("b");
@@ -184,7 +186,8 @@ fn ends_idle(name: &str, then: impl Fn(&mut Client<TcpStream>)) {
     client.write(&[2, 0, 0, 0, 0x5A]);
     let begun = Instant::now();
     then(&mut client);
-    assert_eq!(server.session(), Session::new(2, [1, 0, 0, 0]));
+    let session = server.session_ended("the client was silent for too long");
+    assert_eq!(session, Session::new(2, [1, 0, 0, 0]));
     let took = begun.elapsed();
     assert!(took > Duration::from_millis(900), "{took:?}");
     assert!(took < PATIENCE / 3, "{took:?}");
@@ -209,19 +212,18 @@ fn a_client_silent_inside_a_command_ends() {
 }
 
 /// One that asks and asks and never listens, until nothing more can be sent.
+pub fn never_reads(client: &mut Client<TcpStream>) {
+    let begun = Instant::now();
+    let mut written = begun;
+    while written.elapsed() < Duration::from_millis(300) {
+        assert!(begun.elapsed() < PATIENCE / 3, "somebody hoards the answers");
+        if client.wire.write(&[Q_CMDMAP; 0x1_0000]).is_ok() {
+            written = Instant::now();
+        }
+    }
+}
+
 #[test]
 fn a_client_that_never_reads_ends() {
-    ends_idle("serve-unread", |client| {
-        let begun = Instant::now();
-        let mut written = begun;
-        while written.elapsed() < Duration::from_millis(300) {
-            assert!(
-                begun.elapsed() < PATIENCE / 3,
-                "somebody hoards the answers"
-            );
-            if client.wire.write(&[Q_CMDMAP; 0x1_0000]).is_ok() {
-                written = Instant::now();
-            }
-        }
-    });
+    ends_idle("serve-unread", never_reads);
 }
