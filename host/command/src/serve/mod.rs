@@ -32,7 +32,7 @@ use serde_json::{Value, json};
 use session::{How, Kept, Session};
 use std::net::SocketAddr;
 use std::path::PathBuf;
-use std::time::Duration;
+use std::time::{Duration, Instant};
 use wire::{Stop, Wire};
 
 /// How it is called.
@@ -77,6 +77,9 @@ pub struct Serve {
     #[arg(value_parser = clap::value_parser!(u32).range(1..=86_400))]
     idle: u32,
 }
+
+/// How often a book that others hold is looked at.
+const LOOK: Duration = Duration::from_millis(50);
 
 /// How long a session that is over waits for calls that read the book: longer than
 /// any of them takes.
@@ -146,26 +149,47 @@ impl Serve {
         })
     }
 
-    /// Talks with a client while the book is held, and keeps what came of it.
+    /// A session, once the book can be had.
     fn session(&self, pool: &Asked, how: How, name: &str, wire: &Wire) -> Result<Over, Error> {
-        let kept = pool.open().and_then(|mut pool| {
-            pool.write(|book, now| {
-                let mut bench = Bench::new(book, now)?;
-                bench.take(boards::find(book, &self.board)?)?;
-                let mut session = Session::new(&mut bench, how);
-                let end = talk::talk(wire, &mut session);
-                // Nobody can do it again, so whoever reads the book is waited for.
-                book.busy_timeout(READERS)?;
-                let kept = session.keep(&mut bench, name)?;
-                let transactions = session.transactions;
-                Ok(Over {
-                    end,
-                    transactions,
-                    kept,
-                })
+        let until = Instant::now() + Duration::from_secs(pool.wait.into());
+        // We wait here ourselves, so as to hear if the server is told to end.
+        let pool = Asked {
+            wait: 0,
+            ..pool.clone()
+        };
+        loop {
+            let over = self.held(&pool, how, name, wire);
+            if !over.as_ref().is_err_and(Error::is_in_use) || Instant::now() >= until {
+                return over
+                    .map_err(|error| Error::denied(format_args!("{name} was not kept: {error}")));
+            }
+            if wire.stop.pause(LOOK).unwrap_or(true) {
+                return Ok(Over {
+                    end: End::Stopped,
+                    transactions: 0,
+                    kept: None,
+                });
+            }
+        }
+    }
+
+    /// Talks with a client while the book is held, and keeps what came of it.
+    fn held(&self, pool: &Asked, how: How, name: &str, wire: &Wire) -> Result<Over, Error> {
+        pool.open()?.write(|book, now| {
+            let mut bench = Bench::new(book, now)?;
+            bench.take(boards::find(book, &self.board)?)?;
+            let mut session = Session::new(&mut bench, how);
+            let end = talk::talk(wire, &mut session);
+            // Nobody can do it again, so whoever reads the book is waited for.
+            book.busy_timeout(READERS)?;
+            let kept = session.keep(&mut bench, name)?;
+            let transactions = session.transactions;
+            Ok(Over {
+                end,
+                transactions,
+                kept,
             })
-        });
-        kept.map_err(|error| Error::denied(format_args!("{name} was not kept: {error}")))
+        })
     }
 
     fn begun(&self, on: &str) -> Told {
