@@ -1,6 +1,6 @@
 //! docs/GUIDE.md, typed as it stands. A block `console serve` is a terminal in which
 //! a server runs beside what follows; it and the blocks `console flashrom` are typed
-//! where flashrom is installed.
+//! where flashrom 1.3 is installed.
 
 use crate::common::Folder;
 use crate::serve::server::Server;
@@ -99,7 +99,9 @@ fn typed(folder: &Folder, line: &str, beside: Option<&mut Beside>) -> String {
 fn the_walk_is_true() {
     let folder = Folder::new("guide");
     let text = guide();
-    let flashrom = folder.shell("command -v flashrom").status == 0;
+    // Debian 12's, which calls itself unknown; others word their lines in other ways.
+    let flashrom = folder.shell("flashrom --version | grep -E '^flashrom (unknown|v?1[.]3)'");
+    let flashrom = flashrom.status == 0;
     let (mut typed_lines, mut beside) = (0, None);
     for (kind, lines) in blocks(&text) {
         if let Some(name) = kind.strip_prefix("text ") {

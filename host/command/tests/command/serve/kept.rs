@@ -134,7 +134,10 @@ fn a_session_does_not_wait_for_ever() {
     assert!(client.rest().is_empty());
     let (status, _, complaint) = server.ended();
     assert_eq!(status, Some(1), "{complaint}");
-    assert!(complaint.contains("the pool is in use by another call"), "{complaint}");
+    assert!(
+        complaint.contains("the pool is in use by another call"),
+        "{complaint}"
+    );
     book.execute_batch("ROLLBACK").expect("given back");
     assert_eq!(plays(&folder), 0);
     folder.whole("2026-11");

@@ -109,7 +109,10 @@ fn lines_for_programs() {
     client.spi(&[0x77], 0);
     client.leave();
     let session = line();
-    assert_eq!((&session["transactions"], &session["play"]), (&1.into(), &1.into()));
+    assert_eq!(
+        (&session["transactions"], &session["play"]),
+        (&1.into(), &1.into())
+    );
     assert_eq!(counts(&session["rise"]), [0, 0, 0, 1], "{session}");
     server.ended_well();
 }

@@ -162,15 +162,15 @@ fn a_client_that_vanishes_loses_nothing() {
 #[test]
 fn a_slow_client_is_served() {
     let folder = Folder::with_month("serve-slow");
-    let mut server = Server::start(&folder, "--idle 1");
+    let mut server = Server::start(&folder, "--idle 3");
     let mut client = server.client();
     let begun = Instant::now();
     for byte in small_session() {
         client.send(&[byte]);
         // The slowness itself.
-        std::thread::sleep(Duration::from_millis(50));
+        std::thread::sleep(Duration::from_millis(100));
     }
-    assert!(begun.elapsed() > Duration::from_millis(1_500));
+    assert!(begun.elapsed() > Duration::from_millis(3_500));
     assert_eq!(client.take(7), [ACK, ACK, ACK, 3, ACK, 0, ACK]);
     client.leave();
     assert_eq!(server.session(), Session::new(4, [1, 0, 0, 0]));
@@ -216,7 +216,10 @@ pub fn never_reads(client: &mut Client<TcpStream>) {
     let begun = Instant::now();
     let mut written = begun;
     while written.elapsed() < Duration::from_millis(300) {
-        assert!(begun.elapsed() < PATIENCE / 3, "somebody hoards the answers");
+        assert!(
+            begun.elapsed() < PATIENCE / 3,
+            "somebody hoards the answers"
+        );
         if client.wire.write(&[Q_CMDMAP; 0x1_0000]).is_ok() {
             written = Instant::now();
         }
