@@ -7,7 +7,9 @@ use super::{meter, plays, records};
 use crate::common::{Folder, program};
 use crate::killed::said;
 use std::fs;
+use std::net::Shutdown;
 use std::process::Stdio;
+use std::time::Duration;
 
 #[test]
 fn another_call_waits_for_the_session() {
@@ -77,6 +79,54 @@ fn a_killed_server_leaves_the_book_as_it_was() {
     assert!(said(&folder) == before);
     folder.served("transact b finish --wait 0");
     folder.whole("2026-11");
+}
+
+/// Killed at any moment after its client has gone: the session is in the book
+/// whole, or not at all.
+#[test]
+fn a_server_killed_while_it_keeps() {
+    let folder = Folder::with_month("serve-killed-late");
+    let pool = folder.bytes("tunebriar.pool");
+    let before = said(&folder);
+    // A server whose client has just gone, from the same start each time.
+    let gone = || {
+        let _ = fs::remove_file(folder.path.join("tunebriar.pool-journal"));
+        folder.write("tunebriar.pool", &pool);
+        let server = Server::start(&folder, "--once");
+        let mut client = server.client();
+        client.write(&[2, 0, 0, 0, 1]);
+        client.polled();
+        client.wire.shutdown(Shutdown::Write).expect("no more");
+        (server, client)
+    };
+    // The book, but for the port in the play's name.
+    let now = || {
+        folder.whole("2026-11");
+        let names = "UPDATE play SET name = 'session'";
+        folder.book().execute(names, []).expect("changed");
+        said(&folder)
+    };
+    let (mut server, _client) = gone();
+    server.session();
+    server.ended_well();
+    let after = now();
+    let (mut lost, mut kept) = (0, 0);
+    while kept < 3 {
+        let (server, _client) = gone();
+        std::thread::sleep(Duration::from_millis(2 * (lost + kept)));
+        server.killed();
+        let now = now();
+        assert!(
+            now == before || now == after,
+            "{lost} {kept}: a book in between"
+        );
+        (lost, kept) = (
+            lost + u64::from(now == before),
+            kept + u64::from(now == after),
+        );
+        assert!(lost < 200, "never kept");
+    }
+    assert!(lost > 0, "some were killed before");
 }
 
 /// A session that cannot be kept is told as that, and the book is as before.

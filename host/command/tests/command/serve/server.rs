@@ -121,6 +121,9 @@ impl Server {
         assert_eq!((status, complaint.as_str()), (Some(0), ""));
     }
 
+    /// Kills it here and now; dropping does.
+    pub fn killed(self) {}
+
     /// Whether it still runs.
     pub fn runs(&mut self) -> bool {
         self.child.try_wait().expect("a status").is_none()
