@@ -172,6 +172,30 @@ fn a_session_waits_for_other_calls() {
     folder.whole("2026-11");
 }
 
+/// A session that is over waits for whoever still reads the book: nobody could do
+/// it again.
+#[test]
+fn a_session_is_kept_when_its_readers_have_gone() {
+    let folder = Folder::with_month("serve-readers");
+    let mut server = Server::start(&folder, "--wait 0 --once");
+    let mut client = server.client();
+    client.write(&[2, 0, 0, 0, 1]);
+    client.polled();
+    let book = folder.book();
+    book.execute_batch("BEGIN; SELECT * FROM play")
+        .expect("read");
+    client.wire.shutdown(Shutdown::Write).expect("no more");
+    // No other call can begin to read now that the server wants to write.
+    until("the session's end", || {
+        (folder.run("board list --wait 0").status == 2).then_some(())
+    });
+    assert!(server.runs());
+    book.execute_batch("COMMIT").expect("given back");
+    assert_eq!(server.session(), Session::new(4, [1, 0, 0, 0]));
+    server.ended_well();
+    folder.whole("2026-11");
+}
+
 /// And no longer than `--wait`: then there is no session, and the server says so.
 #[test]
 fn a_session_does_not_wait_for_ever() {
