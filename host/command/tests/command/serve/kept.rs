@@ -185,9 +185,11 @@ fn a_session_is_kept_when_its_readers_have_gone() {
     book.execute_batch("BEGIN; SELECT * FROM play")
         .expect("read");
     client.wire.shutdown(Shutdown::Write).expect("no more");
-    // No other call can begin to read now that the server wants to write.
-    until("the session's end", || {
-        (folder.run("board list --wait 0").status == 2).then_some(())
+    // Once the server wants to write, no other process can begin to read.
+    until("the end of the session", || {
+        let mut look = folder.command();
+        let look = look.args(["board", "list", "--wait", "0"]).output();
+        (look.expect("it runs").status.code() == Some(2)).then_some(())
     });
     assert!(server.runs());
     book.execute_batch("COMMIT").expect("given back");
