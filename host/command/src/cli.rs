@@ -4,8 +4,8 @@ use crate::error::Error;
 use crate::pool::Asked;
 use crate::told::Told;
 use crate::{
-    audit, board, books, explain, flash, job, ledger, list, month, play, quote, tape, transact,
-    translate,
+    audit, board, books, explain, flash, job, ledger, list, month, play, quote, serve, tape,
+    transact, translate,
 };
 use clap::{CommandFactory, Parser, Subcommand};
 use clap_complete::Shell;
@@ -57,6 +57,8 @@ enum Sub {
     Transact(transact::Transact),
     /// Bring an image onto a board: quoted, played, verified
     Flash(flash::Flash),
+    /// Serve a board to flashrom, over serprog
+    Serve(serve::Serve),
     /// Months: open, close, bill, list
     #[command(subcommand)]
     Month(month::Month),
@@ -131,6 +133,7 @@ impl Call {
             Sub::Play(call) => call.run(&pool),
             Sub::Transact(call) => call.run(&pool),
             Sub::Flash(call) => call.run(&pool),
+            Sub::Serve(call) => call.run(&pool, self.json),
             Sub::Month(call) => call.run(&pool, self.json),
             Sub::Explain(call) => call.run(&pool),
             Sub::Audit(call) => call.run(&pool),

@@ -16,6 +16,9 @@ pub const REFUSED: u8 = 1;
 /// Wrong usage, or a file or a book that cannot be read or written.
 pub const WRONG: u8 = 2;
 
+/// Another call changes the book, and does so for too long.
+const IN_USE: &str = "the pool is in use by another call, and --wait is over; nothing was changed";
+
 impl Error {
     fn new(status: u8, words: impl fmt::Display) -> Error {
         Error {
@@ -70,6 +73,12 @@ impl Error {
         Error::new(self.status, format_args!("{}{words}", self.words))
     }
 
+    /// Whether other calls use the pool, so that trying again may serve.
+    #[must_use]
+    pub fn is_in_use(&self) -> bool {
+        self.words.ends_with(IN_USE)
+    }
+
     /// The exit status.
     #[must_use]
     pub fn status(&self) -> u8 {
@@ -115,9 +124,7 @@ impl From<rusqlite::Error> for Error {
     fn from(error: rusqlite::Error) -> Error {
         use rusqlite::ErrorCode::{DatabaseBusy, DatabaseLocked, NotADatabase};
         match error.sqlite_error_code() {
-            Some(DatabaseBusy | DatabaseLocked) => Error::wrong(
-                "the pool is in use by another call, and --wait is over; nothing was changed",
-            ),
+            Some(DatabaseBusy | DatabaseLocked) => Error::wrong(IN_USE),
             Some(NotADatabase) => Error::wrong("this is no pool"),
             _ => Error::wrong(format_args!("the pool: {error}")),
         }

@@ -36,6 +36,7 @@ pub mod pool;
 pub mod progress;
 pub mod quote;
 pub mod report;
+pub mod serve;
 pub mod sha256;
 pub mod source;
 pub mod state_file;
@@ -48,7 +49,7 @@ pub mod words;
 
 use error::Error;
 use std::ffi::OsString;
-use std::io::{ErrorKind, Write, stderr, stdout};
+use std::io::{Write, stderr};
 use std::panic::{AssertUnwindSafe, catch_unwind, set_hook};
 use std::process::ExitCode;
 use told::Told;
@@ -69,24 +70,14 @@ pub struct Ended {
 pub fn main(words: impl Iterator<Item = OsString>) -> ExitCode {
     set_hook(Box::new(|_| {}));
     let mut ended = call(&words.collect::<Vec<_>>());
-    // What cannot be written is lost, and that is told. A reader that has seen
-    // enough, as `head`, is no failure of ours.
-    let mut out = stdout().lock();
-    if let Err(error) = out.write_all(&ended.out).and_then(|()| out.flush())
-        && error.kind() != ErrorKind::BrokenPipe
-    {
-        let words = format!(
-            "standard output: cannot be written: {}{}",
-            files::plain(&error),
-            kept::told()
-        );
-        ended.complain(&Error::wrong(words));
+    if let Err(error) = output::print(&ended.out) {
+        ended.complain(&error.but(kept::told()));
     }
     let _ = stderr().write_all(ended.err.as_bytes());
     ExitCode::from(ended.status)
 }
 
-/// Carries out one call, and prints nothing.
+/// Carries out one call, and prints nothing; `serve` alone tells as it goes.
 #[must_use]
 pub fn call(words: &[OsString]) -> Ended {
     files::forget();

@@ -11,7 +11,7 @@ use crate::files::{self, identity, plain};
 use rustix::fs::{AtFlags, OFlags, cwd, linkat};
 use std::fs::{self, File, Metadata, OpenOptions};
 use std::hash::{BuildHasher, RandomState};
-use std::io::{Write, stderr, stdout};
+use std::io::{ErrorKind, Write, stderr, stdout};
 use std::os::fd::{AsFd, AsRawFd};
 use std::os::unix::fs::{FileTypeExt, MetadataExt, OpenOptionsExt, fchown};
 use std::path::{Path, PathBuf};
@@ -138,6 +138,22 @@ impl Outputs {
             }
         }
         Ok(self.data)
+    }
+}
+
+/// Writes to standard output. What cannot be written is lost, and that is told; a
+/// reader that has seen enough, as `head`, is no failure of ours.
+///
+/// # Errors
+///
+/// Where it cannot be written.
+pub fn print(bytes: &[u8]) -> Result<(), Error> {
+    let mut out = stdout().lock();
+    match out.write_all(bytes).and_then(|()| out.flush()) {
+        Err(error) if error.kind() != ErrorKind::BrokenPipe => {
+            Err(unwritable(Path::new("standard output"), &error))
+        }
+        _ => Ok(()),
     }
 }
 

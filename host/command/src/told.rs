@@ -1,6 +1,7 @@
 //! What a call has to say, for people and for programs.
 
 use crate::error::Error;
+use crate::output::print;
 use serde_json::Value;
 
 /// What a call that was served says.
@@ -25,6 +26,18 @@ impl Told {
             text,
             json,
             ..Told::default()
+        }
+    }
+
+    /// Prints it now, as one that is followed by others: JSON on a line.
+    ///
+    /// # Errors
+    ///
+    /// Where standard output cannot be written.
+    pub fn tell(&self, json: bool) -> Result<(), Error> {
+        match json {
+            true => print(format!("{}\n", self.json).as_bytes()),
+            false => print(self.text.as_bytes()),
         }
     }
 

@@ -39,7 +39,7 @@ pub struct Transact {
 }
 
 #[derive(Clone, Copy, Debug, PartialEq, Eq, ValueEnum)]
-enum Level {
+pub(crate) enum Level {
     High,
     Low,
 }

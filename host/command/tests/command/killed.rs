@@ -48,7 +48,7 @@ fn timed(folder: &Folder, words: &[&str], place: usize) -> bool {
 }
 
 /// All that the book says, but for its free pages.
-fn said(folder: &Folder) -> String {
+pub fn said(folder: &Folder) -> String {
     let tables = [
         "department",
         "board",

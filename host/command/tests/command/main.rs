@@ -15,5 +15,6 @@ mod plays;
 mod refused;
 mod sample;
 mod sealed;
+mod serve;
 mod tapes;
 mod usage;

@@ -95,6 +95,7 @@ fn help_is_there_for_all() {
         "play",
         "transact",
         "flash",
+        "serve",
         "month",
         "explain",
         "audit",
