@@ -114,6 +114,8 @@ fn called(words: &[OsString]) -> Result<(Told, bool), Error> {
 impl Ended {
     fn tell(&mut self, told: Told, json: bool) {
         let text = match json {
+            // All was told as it went.
+            true if told.json.is_null() => String::new(),
             true => format!("{:#}\n", told.json),
             false => told.text,
         };

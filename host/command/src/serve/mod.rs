@@ -130,8 +130,7 @@ impl Serve {
                 break;
             }
         }
-        let json = json!({ "board": self.board, "sessions": sessions });
-        Ok(Told::new(String::new(), json))
+        Ok(Told::default())
     }
 
     fn door(&self) -> Result<Box<dyn Door>, Error> {

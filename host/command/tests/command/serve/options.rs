@@ -114,7 +114,9 @@ fn lines_for_programs() {
         (&1.into(), &1.into())
     );
     assert_eq!(counts(&session["rise"]), [0, 0, 0, 1], "{session}");
-    server.ended_well();
+    let (status, rest, complaint) = server.ended();
+    assert_eq!((status, complaint.as_str()), (Some(0), ""));
+    assert!(rest.is_empty(), "{rest:?}");
 }
 
 /// A call that must not serve: its exit status, and one line that says why.
