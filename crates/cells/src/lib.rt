@@ -1,4 +1,6 @@
 // What a program, an erase and a read do to the bytes that are lent to them.
+#![tactic(auto)]
+
 ghost use Rattle.std.specs.Prelude.{◌≡◌, ◌+◌, ◌%◌, ◌≤◌, ◌<◌, length, get_or};
 ghost use Rattle.std.specs.Int.Bits.{bit_and};
 ghost use Rattle.lists.specs.Places.{tabulate, patched};

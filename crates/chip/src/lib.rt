@@ -1,4 +1,6 @@
 // The chip: a transaction, a finish event, a power cycle; and the meter by itself.
+#![tactic(auto)]
+
 use rules::{Event, Kept, Kind, Meter, Regs, Served, Transacted, Verdict, Write};
 
 pub mod count;
@@ -91,7 +93,7 @@ fn array_done(part: u32, array: &mut [u8], b: &[u8], k: Kind)
     write(part, array, b, w);
 }
 
-#[derive(Drop)]
+#[derive(Clone, Copy)]
 pub struct Turned {
     pub verdict: Verdict,
     pub regs: Regs,

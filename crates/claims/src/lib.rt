@@ -1,1 +1,2 @@
 // Theorems over the rules, and no function.
+#![tactic(auto)]

@@ -1,4 +1,6 @@
 // A job: what its bytes say, when it is refused, and what its tape costs.
+#![tactic(auto)]
+
 use rules::Quoted;
 
 pub mod bill;

@@ -1,4 +1,6 @@
 // Whether a command is carried out: document 01's tests, in its order.
+#![tactic(auto)]
+
 ghost use Rattle.std.specs.Prelude.{◌≡◌, ◌+◌, ◌<◌};
 ghost use Rattle.rules.specs.Parts.{part_of};
 ghost use Rattle.rules.specs.Units.{unit_start, unit_length};

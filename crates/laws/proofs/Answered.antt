@@ -40,14 +40,14 @@ module _ (part : ℕ) (kept : Kept) (m : Meter) (l o b : List ℕ) (x wp : ℕ) 
       (array_after (part_of part) l b v)
       (tabulate (length b) (out_at (part_of part) (regs_of kept) l b v) ++ drop (length b) o)
 
-  pub transact_served : (v : Verdict) → refusal_is.number ≡ 0 → v ≡ verdict_of (part_of part) (regs_of kept) b x (is_high wp)
+  pub transact_served_lem : (v : Verdict) → refusal_is.number ≡ 0 → v ≡ verdict_of (part_of part) (regs_of kept) b x (is_high wp)
       → seen_by v ≡ transact_of part kept m l o b x wp
   unfolding transact_of transact_served turn_of if◌then◌else◌
-  transact_served v e f = ap seen_by f ∙ sym (rw e)
+  transact_served_lem v e f = ap seen_by f ∙ sym (rw e)
 
-  pub transact_refused : (z : Refusal) → z ≡ refusal_is → (z.number ≡ 0 → ⊥) → transact_seen (transact_told kept m (Tr.Refused z)) l o ≡ transact_of part kept m l o b x wp
+  pub transact_refused_lem : (z : Refusal) → z ≡ refusal_is → (z.number ≡ 0 → ⊥) → transact_seen (transact_told kept m (Tr.Refused z)) l o ≡ transact_of part kept m l o b x wp
   unfolding transact_of transact_refused if◌then◌else◌
-  transact_refused z e h = rw (← e, ne_eqb z.number 0 h)
+  transact_refused_lem z e h = rw (← e, ne_eqb z.number 0 h)
 
 -- a command that drives the array leaves it: so its output may be made after it
 pub out-after : (p : Part) (r : Regs) (l b : List ℕ) (n : ℕ) (v : Verdict) → tabulate n (out_at p r (array_after p l b v) b v) ≡ tabulate n (out_at p r l b v)

@@ -1,1 +1,2 @@
 // What the crates above use in place of the definitions' text: laws, and no function.
+#![tactic(auto)]

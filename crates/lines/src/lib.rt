@@ -1,4 +1,6 @@
 // The lines of the listing program, and what it refuses. The program only writes them out.
+#![tactic(auto)]
+
 ghost use Rattle.std.specs.Prelude.{◌≡◌, [], ◌∷◌, ◌++◌, ◌+◌, ◌≤◌, ◌<◌, length, not, ◌||◌};
 ghost use Rattle.lists.specs.Choice.{◌<?◌};
 ghost use Rattle.rules.specs.Listing.{listing_limit, digit, digits3, digits4, hex_digit, space, line_feed, transaction_text, refused_line};

@@ -1,5 +1,7 @@
 // The listing program: a tape on standard input, a line a record on standard output.
 // Its lines, and what it refuses, are made by `lines`; here they are handed over, each in its turn.
+#![tactic(auto)]
+
 ghost use Rattle.std.specs.Prelude.{◌≡◌, not, ◌+◌, length};
 ghost use Rattle.rules.specs.Listing.{listing_of};
 ghost use Rattle.rules.specs.Reading.{read_told, read_of};
@@ -10,7 +12,7 @@ use rules::{AtPlace, LISTING_LIMIT};
 use tape::Reader;
 
 // What was handed to standard output: how many bytes, whether more may follow, and whether a write failed.
-#[derive(Drop)]
+#[derive(Clone, Copy)]
 struct Handed {
     bytes: usize,
     more: bool,

@@ -1,7 +1,9 @@
 // What a search among places answers, the byte at a place, the lesser of two numbers. The rest of this crate is definitions and laws.
+#![tactic(auto)]
+
 ghost use Rattle.std.specs.Prelude.{◌≡◌, min, get_or};
 
-#[derive(Drop)]
+#[derive(Clone, Copy)]
 pub enum Found {
     At(usize),
     Nothing,

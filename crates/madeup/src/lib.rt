@@ -1,1 +1,2 @@
 // A chip that nobody sells, so that a rule which secretly asks for another is found. Definitions and proofs, and no function.
+#![tactic(auto)]

@@ -1,4 +1,6 @@
 // The meter: one more program, erase or register write that was carried out, or one more that was ignored.
+#![tactic(auto)]
+
 ghost use Rattle.std.specs.Prelude.{◌≡◌, ◌+◌};
 ghost use Rattle.rules.specs.Kinds.{of_write};
 ghost use Rattle.lists.specs.Choice.{◌≤?◌};

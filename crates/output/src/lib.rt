@@ -1,4 +1,6 @@
 // What a command drives on the output, place by place.
+#![tactic(auto)]
+
 ghost use Rattle.std.specs.Prelude.{◌≡◌, ◌≤◌, ◌<◌, length};
 ghost use Rattle.lists.specs.Places.{tabulate};
 ghost use Rattle.rules.specs.Parts.{part_of};

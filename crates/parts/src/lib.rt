@@ -1,4 +1,6 @@
 // What the code asks of a chip's description, by part number. A new chip is an arm in each of these; no contract moves.
+#![tactic(auto)]
+
 use rules::{Command, EraseUnit, Kept, Listed, Regs};
 
 mod fm25q16;

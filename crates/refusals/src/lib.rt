@@ -1,4 +1,6 @@
 // The makers of a refusal: every check of every entry gives one of these.
+#![tactic(auto)]
+
 ghost use Rattle.std.specs.Prelude.{◌≡◌};
 ghost use Rattle.rules.specs.Refusals.{refusal, refusal_at};
 ghost use Rattle.rules.specs.Replay.{bad_record};

@@ -1,4 +1,6 @@
 // The registers: the caller's word taken apart and put together, setters, finish and power cycle.
+#![tactic(auto)]
+
 ghost use Rattle.std.specs.Prelude.{◌≡◌, ◌≤◌, ◌<◌};
 ghost use Rattle.rules.specs.Status.{regs_of, flag, status_of, kept_of, low_byte, high_byte, with_busy, with_wel, with_setting, with_srp0, with_srp1, with_qe, with_awake};
 ghost use Rattle.rules.specs.Events.{finished, unlatched, power_cycled};

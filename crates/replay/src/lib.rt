@@ -1,4 +1,6 @@
 // A tape played on a chip: every check first, then record by record; outputs are dropped.
+#![tactic(auto)]
+
 ghost use Rattle.std.specs.Prelude.{◌≡◌, ◌+◌, ◌≤◌, ◌<◌, length, take, drop};
 ghost use Rattle.rules.specs.Parts.{part_of};
 ghost use Rattle.rules.specs.Tape.{transaction, sent_limit, rec_at, recs_from};
@@ -11,7 +13,7 @@ ghost use Rattle.replay.specs.Playable.{Playable};
 use rules::{AtPlace, Kept, Meter, Played, Refusal, Regs, Replayed, Sent};
 
 // What a record changes besides the array.
-#[derive(Drop)]
+#[derive(Clone, Copy)]
 struct Playing {
     regs: Regs,
     meter: Meter,

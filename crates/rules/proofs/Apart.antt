@@ -66,12 +66,12 @@ code_back (Writes WriteStatus) = refl
 kind_back : ℕ → Kind
 kind_back c = of_known (command_by (row_in fm_commands c)) WriteEnable (λ k. k)
 
-kind_back : (k : Kind) → kind_back (code_of k) ≡ k
+kind_back_lem : (k : Kind) → kind_back (code_of k) ≡ k
 unfolding kind_back of_known
-kind_back k = rw (code_back k)
+kind_back_lem k = rw (code_back k)
 
 pub kinds_apart : (k j : Kind) → code_of k ≡ code_of j → k ≡ j
-kinds_apart = apart code_of kind_back kind_back
+kinds_apart = apart code_of kind_back kind_back_lem
 
 zero_unknown : command_by (row_in fm_commands 0) ≡ Unknown
 unfolding row_in fm_commands if◌then◌else◌
@@ -87,13 +87,13 @@ coded k e =
 verdict_back : VerdictTold → Verdict
 verdict_back t = if t.code =? 0 then ignored t.number else CarriedOut (kind_back t.code)
 
-verdict_back : (v : Verdict) → verdict_back (verdict_told v) ≡ v
+verdict_back_lem : (v : Verdict) → verdict_back (verdict_told v) ≡ v
 unfolding verdict_back if◌then◌else◌
-verdict_back (CarriedOut k) = rw (ne_eqb (code_of k) 0 (coded k), kind_back k)
-verdict_back (Ignored w) = refl
+verdict_back_lem (CarriedOut k) = rw (ne_eqb (code_of k) 0 (coded k), kind_back_lem k)
+verdict_back_lem (Ignored w) = refl
 
 pub verdicts_apart : (v w : Verdict) → verdict_told v ≡ verdict_told w → v ≡ w
-verdicts_apart = apart verdict_told verdict_back verdict_back
+verdicts_apart = apart verdict_told verdict_back verdict_back_lem
 
 -- ---- answers
 
@@ -103,24 +103,24 @@ transacted_back t =
     then Tr.Stepped (record { verdict = verdict_back (record { number = t.number; code = t.code }); regs = t.regs; meter = t.meter })
     else Tr.Refused (record { number = t.number; index = t.index })
 
-transacted_back : (kept : Kept) (m : Meter) (a : Transacted) → transacted_back (transact_told kept m a) ≡ a
+transacted_back_lem : (kept : Kept) (m : Meter) (a : Transacted) → transacted_back (transact_told kept m a) ≡ a
 unfolding transacted_back if◌then◌else◌
-transacted_back kept m (Tr.Stepped s) = λ i. Tr.Stepped (record { verdict = verdict_back s.verdict i; regs = s.regs; meter = s.meter })
-transacted_back kept m (Tr.Refused z) = refl
+transacted_back_lem kept m (Tr.Stepped s) = λ i. Tr.Stepped (record { verdict = verdict_back_lem s.verdict i; regs = s.regs; meter = s.meter })
+transacted_back_lem kept m (Tr.Refused z) = refl
 
 pub transacted_apart : (kept : Kept) (m : Meter) (a b : Transacted) → transact_told kept m a ≡ transact_told kept m b → a ≡ b
-transacted_apart kept m = apart (transact_told kept m) transacted_back (transacted_back kept m)
+transacted_apart kept m = apart (transact_told kept m) transacted_back (transacted_back_lem kept m)
 
 event_back : EventTold → Event
 event_back t = if t.served then Ev.Passed t.regs else Ev.Refused (record { number = t.number; index = t.index })
 
-event_back : (kept : Kept) (a : Event) → event_back (event_told kept a) ≡ a
+event_back_lem : (kept : Kept) (a : Event) → event_back (event_told kept a) ≡ a
 unfolding event_back if◌then◌else◌
-event_back kept (Ev.Passed k) = refl
-event_back kept (Ev.Refused z) = refl
+event_back_lem kept (Ev.Passed k) = refl
+event_back_lem kept (Ev.Refused z) = refl
 
 pub events_apart : (kept : Kept) (a b : Event) → event_told kept a ≡ event_told kept b → a ≡ b
-events_apart kept = apart (event_told kept) event_back (event_back kept)
+events_apart kept = apart (event_told kept) event_back (event_back_lem kept)
 
 replayed_back : AnswerTold → Replayed
 replayed_back t =
@@ -128,35 +128,35 @@ replayed_back t =
     then Re.Ended (record { regs = t.regs; meter = t.meter })
     else Re.Refused (record { number = t.number; index = t.index })
 
-replayed_back : (kept : Kept) (m : Meter) (a : Replayed) → replayed_back (replay_told kept m a) ≡ a
+replayed_back_lem : (kept : Kept) (m : Meter) (a : Replayed) → replayed_back (replay_told kept m a) ≡ a
 unfolding replayed_back if◌then◌else◌
-replayed_back kept m (Re.Ended s) = refl
-replayed_back kept m (Re.Refused z) = refl
+replayed_back_lem kept m (Re.Ended s) = refl
+replayed_back_lem kept m (Re.Refused z) = refl
 
 pub replayed_apart : (kept : Kept) (m : Meter) (a b : Replayed) → replay_told kept m a ≡ replay_told kept m b → a ≡ b
-replayed_apart kept m = apart (replay_told kept m) replayed_back (replayed_back kept m)
+replayed_apart kept m = apart (replay_told kept m) replayed_back (replayed_back_lem kept m)
 
 translated_back : TapeTold → Translated
 translated_back t = if t.served then Tl.Written t.length else Tl.Refused (record { number = t.number; index = t.index })
 
-translated_back : (a : Translated) → translated_back (translate_told a) ≡ a
+translated_back_lem : (a : Translated) → translated_back (translate_told a) ≡ a
 unfolding translated_back if◌then◌else◌
-translated_back (Tl.Written n) = refl
-translated_back (Tl.Refused z) = refl
+translated_back_lem (Tl.Written n) = refl
+translated_back_lem (Tl.Refused z) = refl
 
 pub translated_apart : (a b : Translated) → translate_told a ≡ translate_told b → a ≡ b
-translated_apart = apart translate_told translated_back translated_back
+translated_apart = apart translate_told translated_back translated_back_lem
 
 quoted_back : BillTold → Quoted
 quoted_back t = if t.served then Qu.Billed t.bill else Qu.Refused (record { number = t.number; index = t.index })
 
-quoted_back : (a : Quoted) → quoted_back (quote_told a) ≡ a
+quoted_back_lem : (a : Quoted) → quoted_back (quote_told a) ≡ a
 unfolding quoted_back if◌then◌else◌
-quoted_back (Qu.Billed b) = refl
-quoted_back (Qu.Refused z) = refl
+quoted_back_lem (Qu.Billed b) = refl
+quoted_back_lem (Qu.Refused z) = refl
 
 pub quoted_apart : (a b : Quoted) → quote_told a ≡ quote_told b → a ≡ b
-quoted_apart = apart quote_told quoted_back quoted_back
+quoted_apart = apart quote_told quoted_back quoted_back_lem
 
 -- ---- a read at place p
 
@@ -172,13 +172,13 @@ read_back t =
     if t.kind =? 3 then End else
     Fault t.number
 
-read_back : (p : ℕ) (a : AtPlace) → read_back (read_told p a) ≡ a
+read_back_lem : (p : ℕ) (a : AtPlace) → read_back (read_told p a) ≡ a
 unfolding read_back if◌then◌else◌
-read_back p (Transaction s) = λ i. Transaction (record { start = s.start; length = s.length; leftover = s.leftover; high = flag_back s.high i })
-read_back p Finish = refl
-read_back p PowerCycle = refl
-read_back p End = refl
-read_back p (Fault n) = refl
+read_back_lem p (Transaction s) = λ i. Transaction (record { start = s.start; length = s.length; leftover = s.leftover; high = flag_back s.high i })
+read_back_lem p Finish = refl
+read_back_lem p PowerCycle = refl
+read_back_lem p End = refl
+read_back_lem p (Fault n) = refl
 
 pub reads_apart : (p : ℕ) (a b : AtPlace) → read_told p a ≡ read_told p b → a ≡ b
-reads_apart p = apart (read_told p) read_back (read_back p)
+reads_apart p = apart (read_told p) read_back (read_back_lem p)

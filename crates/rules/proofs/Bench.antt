@@ -68,10 +68,10 @@ look_by : ℕ → List ℕ → List ℕ → List Fact → List Fact
 look_by from l after [] = []
 look_by from l after (f ∷ fs) = holds f.place (if f.place <? from then get_or l f.place 0 else get_or after f.place 0) ∷ look_by from l after fs
 
-look_by : (from : ℕ) (l after : List ℕ) → ((y : ℕ) → y < from → get_or after y 0 ≡ get_or l y 0) → (fs : List Fact) → look_at after fs ≡ look_by from l after fs
+look_by_lem : (from : ℕ) (l after : List ℕ) → ((y : ℕ) → y < from → get_or after y 0 ≡ get_or l y 0) → (fs : List Fact) → look_at after fs ≡ look_by from l after fs
 unfolding look_at look_by if◌then◌else◌
-look_by from l after h [] = refl
-look_by from l after h (f ∷ fs) = λ i. holds f.place (go (f.place <? from) refl i) ∷ look_by from l after h fs i
+look_by_lem from l after h [] = refl
+look_by_lem from l after h (f ∷ fs) = λ i. holds f.place (go (f.place <? from) refl i) ∷ look_by_lem from l after h fs i
   where
     go : (t : Bool) → (f.place <? from) ≡ t → get_or after f.place 0 ≡ (if t then get_or l f.place 0 else get_or after f.place 0)
     go true e = h f.place (ltb-true f.place from e)
@@ -119,9 +119,9 @@ stays n t y h = go (accepted (transact_refusal 1 n t.start (length t.bytes) 0 (l
     go true = below (array_at t) t.bytes (turn_at t).verdict (stored-length t.facts 2097152) y h
     go false = refl
 
-observed_at : (t : Reading) → observed t ≡ observed_at 2097152 t
+observed_at_lem : (t : Reading) → observed t ≡ observed_at 2097152 t
 unfolding observed observed_at transacted_at turn_at transact_of array_at seen_of
-observed_at t =
+observed_at_lem t =
     ap (λ (n : ℕ). seen_of t (transacted_at n t)) (stored-length t.facts 2097152)
     ∙ (λ i.
     record {
@@ -131,13 +131,13 @@ observed_at t =
       out = (transacted_at 2097152 t).out;
       regs = (transacted_at 2097152 t).answer.regs;
       meter = (transacted_at 2097152 t).answer.meter;
-      array = look_by (changed_from t.bytes (turn_at t).verdict) (array_at t) (transacted_at 2097152 t).array (stays 2097152 t) t.expected.array i;
+      array = look_by_lem (changed_from t.bytes (turn_at t).verdict) (array_at t) (transacted_at 2097152 t).array (stays 2097152 t) t.expected.array i;
       finishes = finishing (transacted_at 2097152 t).answer.regs t.expected.finishes;
     })
 
 each : (ts : List Reading) → map observed ts ≡ map (observed_at 2097152) ts
 each [] = refl
-each (t ∷ ts) = λ i. observed_at t i ∷ each ts i
+each (t ∷ ts) = λ i. observed_at_lem t i ∷ each ts i
 
 computed : map (observed_at 2097152) readings ≡ map (λ t. t.expected) readings
 unfolding observed_at transacted_at turn_at look_by readings seen_of look_at finishing array_at stored blank transact_served transact_refused transact_refusal is_part part_of fm25q16 fm_commands fm_heard_asleep fm_heard_busy fm_sec0 fm_sec1 fm_area fm_lo fm_hi takes leaves row_in row_of regs_of status_of kept_of low_byte high_byte word_formed awake_formed well_formed is_protected first_protected some_protected cell programmed erased locked fm_first fm_second fm_status_written address_of unheard_asleep unheard_busy verdict_of from_place turn_of room finished event_refusal event_of finish_of of_write of_known if◌then◌else◌ tabulate_from tabulate patched first_in

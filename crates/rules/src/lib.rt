@@ -1,4 +1,5 @@
 // The types that document 01 speaks of, by value. What they mean stands in specs/.
+#![tactic(auto)]
 
 // ---- document 01's sizes and limits: one name a rule, as in specs/
 
@@ -38,7 +39,7 @@ pub const LISTING_LIMIT: usize = 65472;
 
 // The registers as the caller keeps them: 16 status bits, and 1 for awake or 0 for asleep.
 #[repr(C)]
-#[derive(Drop)]
+#[derive(Clone, Copy)]
 pub struct Kept {
     pub status: u32,
     pub awake: u32,
@@ -46,7 +47,7 @@ pub struct Kept {
 
 // The meter: programs, erases and register writes that were carried out, and what was ignored.
 #[repr(C)]
-#[derive(Drop)]
+#[derive(Clone, Copy)]
 pub struct Meter {
     pub programs: u32,
     pub erases: u32,
@@ -55,14 +56,14 @@ pub struct Meter {
 }
 
 // What becomes of a meter that is brought up to date by itself: 0, or a refusal's number and the meter as it was.
-#[derive(Drop)]
+#[derive(Clone, Copy)]
 pub struct Metered {
     pub number: u32,
     pub meter: Meter,
 }
 
 // The registers taken apart, under document 01's names.
-#[derive(Drop)]
+#[derive(Clone, Copy)]
 pub struct Regs {
     pub busy: bool,
     pub wel: bool,
@@ -76,7 +77,7 @@ pub struct Regs {
 // ---- commands and verdicts
 
 // What an erase sets to FF: 4 KB, 32 KB, 64 KB or all.
-#[derive(Drop)]
+#[derive(Clone, Copy)]
 pub enum EraseUnit {
     Sector,
     Block32,
@@ -85,7 +86,7 @@ pub enum EraseUnit {
 }
 
 // The commands that write: they want WEL, set BUSY and are counted.
-#[derive(Drop)]
+#[derive(Clone, Copy)]
 pub enum Write {
     Program,
     Erase(EraseUnit),
@@ -93,7 +94,7 @@ pub enum Write {
 }
 
 // The kinds of command, whatever chip offers them.
-#[derive(Drop)]
+#[derive(Clone, Copy)]
 pub enum Kind {
     WriteEnable,
     WriteDisable,
@@ -109,7 +110,7 @@ pub enum Kind {
 }
 
 // How many bytes a command takes.
-#[derive(Drop)]
+#[derive(Clone, Copy)]
 pub enum Bytes {
     Exactly(usize),
     Either(usize, usize),
@@ -117,14 +118,14 @@ pub enum Bytes {
 }
 
 // What a command asks of the leftover bits.
-#[derive(Drop)]
+#[derive(Clone, Copy)]
 pub enum Leftover {
     NoBits,
     AnyBits,
 }
 
 // A line of a chip's table of commands.
-#[derive(Drop)]
+#[derive(Clone, Copy)]
 pub struct Row {
     pub code: u8,
     pub kind: Kind,
@@ -133,26 +134,26 @@ pub struct Row {
 }
 
 // What the table has for an operation code.
-#[derive(Drop)]
+#[derive(Clone, Copy)]
 pub enum Listed {
     Line(Row),
     Unlisted,
 }
 
 // What an operation code says to a chip.
-#[derive(Drop)]
+#[derive(Clone, Copy)]
 pub enum Command {
     Known(Kind),
     Unknown,
 }
 
 // Why a command was ignored: document 01's number; the verdict gives 10 to 16. One place to grow.
-#[derive(Drop)]
+#[derive(Clone, Copy)]
 pub struct Reason {
     pub number: u8,
 }
 
-#[derive(Drop)]
+#[derive(Clone, Copy)]
 pub enum Verdict {
     CarriedOut(Kind),
     Ignored(Reason),
@@ -161,13 +162,13 @@ pub enum Verdict {
 // ---- answers
 
 // Document 01's number of a refusal, and the first bad record's index where it gives one, else 0.
-#[derive(Drop)]
+#[derive(Clone, Copy)]
 pub struct Refusal {
     pub number: u8,
     pub index: usize,
 }
 
-#[derive(Drop)]
+#[derive(Clone, Copy)]
 pub struct Served {
     pub verdict: Verdict,
     pub regs: Kept,
@@ -175,34 +176,34 @@ pub struct Served {
 }
 
 // The answer to a transaction.
-#[derive(Drop)]
+#[derive(Clone, Copy)]
 pub enum Transacted {
     Stepped(Served),
     Refused(Refusal),
 }
 
 // The answer to a finish event or a power cycle.
-#[derive(Drop)]
+#[derive(Clone, Copy)]
 pub enum Event {
     Passed(Kept),
     Refused(Refusal),
 }
 
-#[derive(Drop)]
+#[derive(Clone, Copy)]
 pub struct Played {
     pub regs: Kept,
     pub meter: Meter,
 }
 
 // The answer to a replay.
-#[derive(Drop)]
+#[derive(Clone, Copy)]
 pub enum Replayed {
     Ended(Played),
     Refused(Refusal),
 }
 
 // Where a tape holds a transaction's bytes, with its leftover bits and the level of /WP.
-#[derive(Drop)]
+#[derive(Clone, Copy)]
 pub struct Sent {
     pub start: usize,
     pub length: usize,
@@ -211,7 +212,7 @@ pub struct Sent {
 }
 
 // The answer to a read at a place of a tape.
-#[derive(Drop)]
+#[derive(Clone, Copy)]
 pub enum AtPlace {
     Transaction(Sent),
     Finish,
@@ -222,7 +223,7 @@ pub enum AtPlace {
 
 // ---- jobs
 
-#[derive(Drop)]
+#[derive(Clone, Copy)]
 pub struct Span {
     pub address: usize,
     pub length: usize,
@@ -230,7 +231,7 @@ pub struct Span {
 }
 
 // A step of a job.
-#[derive(Drop)]
+#[derive(Clone, Copy)]
 pub enum Step {
     EraseAt(EraseUnit, usize),
     Lay(Span),
@@ -238,21 +239,21 @@ pub enum Step {
 }
 
 // What 16 bytes of a job say.
-#[derive(Drop)]
+#[derive(Clone, Copy)]
 pub enum Decoded {
     Good(Step),
     Bad,
 }
 
 // The answer to a translation: how many bytes of the tape were written.
-#[derive(Drop)]
+#[derive(Clone, Copy)]
 pub enum Translated {
     Written(usize),
     Refused(Refusal),
 }
 
 // By how much a job's tape raises the meter, and how many bytes it is long.
-#[derive(Drop)]
+#[derive(Clone, Copy)]
 pub struct Bill {
     pub programs: u32,
     pub erases: u32,
@@ -261,7 +262,7 @@ pub struct Bill {
 }
 
 // The answer to a quote.
-#[derive(Drop)]
+#[derive(Clone, Copy)]
 pub enum Quoted {
     Billed(Bill),
     Refused(Refusal),

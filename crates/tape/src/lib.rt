@@ -1,4 +1,6 @@
 // A tape's records: read at a place, checked, written. The place is a number first; the reader stands above.
+#![tactic(auto)]
+
 ghost use Rattle.std.specs.Prelude.{◌≡◌, ◌++◌, ◌+◌, ◌*◌, ◌≤◌, ◌<◌, ◌^◌, length, take, drop, replicate};
 ghost use Rattle.lists.specs.Places.{every_in};
 ghost use Rattle.rules.specs.Status.{flag};

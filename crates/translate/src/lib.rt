@@ -1,4 +1,6 @@
 // A job's steps become records on the lent tape.
+#![tactic(auto)]
+
 ghost use Rattle.std.specs.Prelude.{true, ◌≡◌, ◌∷◌, ◌++◌, ◌+◌, ◌*◌, ◌≤◌, ◌<◌, length};
 ghost use Rattle.rules.specs.Tape.{Rec, encode_rec, encode, record_length, sent_limit};
 ghost use Rattle.rules.specs.Parts.{part_of};

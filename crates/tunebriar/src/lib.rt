@@ -1,4 +1,6 @@
 // The C entries: thin, over byte slices and numbers. include/tunebriar.h declares them.
+#![tactic(auto)]
+
 ghost use Rattle.std.specs.Prelude.{◌≡◌, length};
 ghost use Rattle.rules.specs.Verdict.{verdict_told};
 ghost use Rattle.rules.specs.Transact.{transact_told, transact_of};
@@ -14,7 +16,7 @@ use rules::{AtPlace, Event, Kept, Meter, Quoted, Replayed, Transacted, Translate
 // ---- the answers as the C interface has them: numbers alone
 
 #[repr(C)]
-#[derive(Drop)]
+#[derive(Clone, Copy)]
 pub struct TbAnswer {
     pub number: u32,
     pub index: u64,
@@ -23,7 +25,7 @@ pub struct TbAnswer {
 }
 
 #[repr(C)]
-#[derive(Drop)]
+#[derive(Clone, Copy)]
 pub struct TbEvent {
     pub number: u32,
     pub index: u64,
@@ -31,7 +33,7 @@ pub struct TbEvent {
 }
 
 #[repr(C)]
-#[derive(Drop)]
+#[derive(Clone, Copy)]
 pub struct TbTape {
     pub number: u32,
     pub index: u64,
@@ -39,7 +41,7 @@ pub struct TbTape {
 }
 
 #[repr(C)]
-#[derive(Drop)]
+#[derive(Clone, Copy)]
 pub struct TbBill {
     pub number: u32,
     pub index: u64,
@@ -50,7 +52,7 @@ pub struct TbBill {
 }
 
 #[repr(C)]
-#[derive(Drop)]
+#[derive(Clone, Copy)]
 pub struct TbRecord {
     pub kind: u32,
     pub number: u32,
