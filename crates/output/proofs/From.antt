@@ -22,9 +22,9 @@ pub below_place : (k : ℕ) (f : ℕ → ℕ) (i : ℕ) → i < k → from_place
 unfolding from_place if◌then◌else◌
 below_place k f i h = rw (lt-leb k i h)
 
-pub from_place : (k : ℕ) (f : ℕ → ℕ) (i : ℕ) → k ≤ i → from_place k f i ≡ f (i - k)
+pub from_place_lem : (k : ℕ) (f : ℕ → ℕ) (i : ℕ) → k ≤ i → from_place k f i ≡ f (i - k)
 unfolding from_place if◌then◌else◌
-from_place k f i h = rw (le-leb k i h)
+from_place_lem k f i h = rw (le-leb k i h)
 
 -- an output that ends before the place is FF
 from_short : (n k : ℕ) (f : ℕ → ℕ) → n ≤ k → tabulate n ff ≡ tabulate n (from_place k f)
@@ -36,7 +36,7 @@ from_long n k f h =
     tab_ext n (from_place k f) (patched (tabulate n ff) k (n - k) f)
     (patched-length (tabulate n ff) k (n - k) f (omega arith) ∙ l)
     (λ j q. by_place (λ (t : Bool). get_or (patched (tabulate n ff) k (n - k) f) j 0 ≡ from_place k f j) k (n - k) j
-    (λ a b. patched_inside (tabulate n ff) k (n - k) f j (omega arith) a b ∙ sym (from_place k f j a))
+    (λ a b. patched_inside (tabulate n ff) k (n - k) f j (omega arith) a b ∙ sym (from_place_lem k f j a))
     (λ a. patched_below (tabulate n ff) k (n - k) f j (omega arith) a ∙ tab_at n ff j q ∙ sym (below_place k f j a))
     (λ a. absurd (omega arith)))
 
