@@ -29,7 +29,7 @@ use Rattle.rules.specs.Transaction.{Turn, driven_at, regs_done, turn_of}
 use Rattle.rules.specs.Counts.{counted}
 use Rattle.rules.specs.Transact.{TransactSeen, is_high, transact_of}
 use Rattle.laws.proofs.Accepted.{Taken}
-use Rattle.laws.proofs.Answered.{transact_served}
+use Rattle.laws.proofs.Answered.{transact_served_lem}
 use Rattle.laws.proofs.Protection.{none_protected, bare_none}
 use Rattle.laws.proofs.CarriedOut.{Passed, carried_passed, passed_carried, turn_is}
 use Rattle.claims.proofs.Choices.{both_false}
@@ -172,7 +172,7 @@ module _ (part : ℕ) (kept : Kept) (m : Meter) (l o b : List ℕ) (x wp : ℕ) 
   allowed_is_carried_out_lent k c h =
       let e = passed_carried (part_of part) r b x (is_high wp) k (passes (part_of part) r b x (is_high wp) k h) in
       subst (EffectLent part kept m l o b k)
-      (transact_served part kept m l o b x wp (CarriedOut k) (not_refused part (length l) kept (length b) x (length o) m c) (sym e))
+      (transact_served_lem part kept m l o b x wp (CarriedOut k) (not_refused part (length l) kept (length b) x (length o) m c) (sym e))
       (record { served = refl; number = refl; code = refl; index = refl; regs = refl; meter = refl; array = refl; out = refl })
 
   -- .. and none other answers 0

@@ -27,7 +27,7 @@ use Rattle.rules.specs.Transaction.{Turn, turn_of}
 use Rattle.rules.specs.Refusals.{refusal, accepted, transaction_limit, transact_refusal}
 use Rattle.rules.specs.Transact.{TransactSeen, transact_told, transact_seen, is_high, transact_of}
 use Rattle.laws.proofs.Accepted.{past_three, room_had, Taken, taken}
-use Rattle.laws.proofs.Answered.{seen_by, transact_served, transact_refused}
+use Rattle.laws.proofs.Answered.{seen_by, transact_served_lem, transact_refused_lem}
 use Rattle.laws.proofs.CarriedOut.{carried_passed, turn_is}
 use Rattle.claims.proofs.Choices.{never}
 use Rattle.claims.proofs.Ignored.{ignored-number}
@@ -81,7 +81,7 @@ module _ (part : ℕ) (kept : Kept) (m : Meter) (l o b : List ℕ) (x wp : ℕ) 
   by_answer P carried ignored refused = go (accepted refusal_is) refl verdict refl
     where
       served : (v : Verdict) → verdict ≡ v → accepted refusal_is ≡ true → P (seen_at v) → P seen
-      served v f e = subst P (transact_served part kept m l o b x wp v (eqb-true refusal_is.number 0 e) (sym f))
+      served v f e = subst P (transact_served_lem part kept m l o b x wp v (eqb-true refusal_is.number 0 e) (sym f))
 
       sure : accepted refusal_is ≡ true → Unrefused
       sure e = taken part (length l) kept (length b) x (length o) m (eqb-true refusal_is.number 0 e)
@@ -91,7 +91,7 @@ module _ (part : ℕ) (kept : Kept) (m : Meter) (l o b : List ℕ) (x wp : ℕ) 
       go true e (Ignored w) f = served (Ignored w) f e (ignored (sure e) w f)
       go false e v f =
           let h = eqb-false refusal_is.number 0 e in
-          subst P (transact_refused part kept m l o b x wp refusal_is refl h) (refused (omega arith) refused_few)
+          subst P (transact_refused_lem part kept m l o b x wp refusal_is refl h) (refused (omega arith) refused_few)
 
   -- ---- the array: a transaction that is ignored or refused leaves it
 

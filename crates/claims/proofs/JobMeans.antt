@@ -32,7 +32,7 @@ use Rattle.demand.specs.Raised.{raised}
 use Rattle.demand.specs.Ignored.{ignored_in}
 use Rattle.demand.proofs.Demand3.{after_job}
 use Rattle.demand.proofs.JobPlayed.{job_recs_ok, job-played, job-none-ignored}
-use Rattle.replay.proofs.Checked.{replay_served}
+use Rattle.replay.proofs.Checked.{replay_served_lem}
 use Rattle.translate.proofs.Whole.{tape-long}
 
 module _ (part s : ℕ) (job payload buffer : List ℕ) (served : (translate_of part s job payload buffer).answer.served ≡ true) where
@@ -87,7 +87,7 @@ module _ (part s : ℕ) (job payload buffer : List ℕ) (served : (translate_of 
     tape-played : replay_of part kept m l w ≡ replay_seen (played_told (kept_of (all_regs_meant (part_of part) (regs_of kept) (steps_of job))) (raised m (bill_of (steps_of job)))) (array_meant (part_of part) payload l (steps_of job))
     unfolding replay_of start
     tape-played =
-        sym (replay_served part kept m l w (records w) (after_job (part_of part) payload (steps_of job) start) replay_unrefused
+        sym (replay_served_lem part kept m l w (records w) (after_job (part_of part) payload (steps_of job) start) replay_unrefused
         (sym (job-played part s job payload unrefused kept ready l long m) ∙ ap (λ (es : List Rec). play (part_of part) es start) (sym recs_are)))
 
     tape_heeded : ignored_in (part_of part) (recs_of w) (state (regs_of kept) l m) ≡ 0
