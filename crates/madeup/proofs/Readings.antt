@@ -6,24 +6,25 @@ use Prim.Native.Nat.{ℕ, ◌<◌}
 use native.Mathlib.Omega.{arith}
 use borrow.Author.Tests.{lt-leb}
 use Rattle.lists.specs.Choice.{if◌then◌else◌, ◌<?◌, ◌≤?◌}
-use Rattle.lists.specs.Places.{first_in, every_in}
+use Rattle.lists.specs.Places.{every_in}
 use Rattle.rules.specs.declared.Kept.{Kept}
 use Rattle.rules.specs.declared.Refusal.{Refusal}
 use Rattle.rules.specs.declared.Kind.TheVariants.{ReadJedec}
 use Rattle.rules.specs.declared.EraseUnit.TheVariants.{Block64}
 use Rattle.rules.specs.declared.Step.TheVariants.{EraseAt, Guard}
 use Rattle.rules.specs.Kinds.{of_write, of_known}
-use Rattle.rules.specs.Part.{takes, leaves, row_in, row_of}
+use Rattle.lists.proofs.Search.{overlap}
+use Rattle.rules.specs.Part.{Part, takes, leaves, row_in, row_of}
 use Rattle.rules.specs.Status.{regs_of, status_of, kept_of}
 use Rattle.rules.specs.WellFormed.{word_formed, awake_formed, well_formed}
-use Rattle.rules.specs.Protection.{is_protected, first_protected, some_protected}
+use Rattle.rules.specs.Protection.{is_protected, was_found, some_protected}
 use Rattle.rules.specs.Writes.{locked}
 use Rattle.rules.specs.Verdict.{address_of, unheard_asleep, unheard_busy, verdict_of, verdict_told}
 use Rattle.rules.specs.Transaction.{from_place, driven_at}
 use Rattle.rules.specs.Refusals.{refusal, refusal_at, ◌or_else◌}
 use Rattle.rules.specs.Job.{step_count, unit_by, decoded_erase, decoded_lay, decoded_guard, decoded_at, all_regs_meant}
 use Rattle.rules.specs.JobRefusals.{shielded, step_refusal, steps_refusal}
-use Rattle.laws.proofs.Protection.{bare_none}
+use Rattle.laws.proofs.Protection.{first_protected_lem, bare_none}
 use Rattle.rules.specs.Records.{three_recs, step_recs}
 use Rattle.madeup.specs.Chip.{mu_commands, mu_heard_asleep, mu_heard_busy, mu_erases, mu_lo, mu_hi, mu_jedec, mu_guard_bytes, madeup}
 use Rattle.madeup.specs.Readings.{Reading, readings, Word, words, Job, jobs}
@@ -35,9 +36,14 @@ awake_at w = record { status = w; awake = 1 }
 abbrev number_of : Reading → ℕ
 number_of e = (verdict_told (verdict_of madeup (regs_of (awake_at e.status)) e.bytes 0 false)).number
 
+some_overlap : (p : Part) (s a n : ℕ) → some_protected p s a n ≡ was_found (overlap (p.lo s) (p.hi s) a n)
+unfolding some_protected
+some_overlap p s a n = ap was_found (first_protected_lem p s a n)
+
+-- the area is asked at its ends, so that no byte of a stretch is counted
 pub verdicts_are_the_rows : map number_of readings ≡ map (λ (e : Reading). e.number) readings
-unfolding readings madeup mu_commands mu_heard_asleep mu_heard_busy mu_lo mu_hi regs_of takes leaves row_in row_of verdict_of address_of unheard_asleep unheard_busy locked is_protected first_protected some_protected first_in of_write of_known if◌then◌else◌
-verdicts_are_the_rows = refl
+unfolding readings madeup mu_commands mu_heard_asleep mu_heard_busy mu_lo mu_hi regs_of takes leaves row_in row_of verdict_of address_of unheard_asleep unheard_busy locked of_write of_known if◌then◌else◌
+verdicts_are_the_rows = simp (some_overlap, number_of)
 
 pub words_are_the_rows : map (λ (e : Word). well_formed madeup e.kept) words ≡ map (λ (e : Word). e.formed) words
 unfolding words madeup word_formed awake_formed well_formed
@@ -47,8 +53,8 @@ abbrev refusal_of : Job → Refusal
 refusal_of e = steps_refusal madeup e.setting 4 e.job 0 (step_count e.job)
 
 pub refusals_are_the_rows : map refusal_of jobs ≡ map (λ (e : Job). refusal_at e.number e.index) jobs
-unfolding jobs madeup mu_erases mu_lo mu_hi steps_refusal step_refusal ◌or_else◌ decoded_at decoded_erase decoded_lay decoded_guard unit_by every_in is_protected first_protected first_in if◌then◌else◌
-refusals_are_the_rows = refl
+unfolding jobs madeup mu_erases mu_lo mu_hi steps_refusal step_refusal ◌or_else◌ decoded_at decoded_erase decoded_lay decoded_guard unit_by every_in if◌then◌else◌
+refusals_are_the_rows = simp first_protected_lem
 
 -- a guard sends one status byte, and sets the setting alone
 pub guard_sends : step_recs madeup [] (Guard 9) ≡ three_recs (0x01 ∷ 0x24 ∷ [])
