@@ -1,3 +1,4 @@
+use borrow.Author.Rules.{rules}
 use mathlib.Core.Path.{◌≡◌, sym, ap, subst, ◌∙◌}
 use mathlib.Core.List.{List}
 use Prim.Native.Nat.{ℕ, ◌<◌, ◌^◌}
@@ -24,7 +25,7 @@ loop-handed-preserved c =
     let h = c.tell-handed.result in
     let e : c.read-found.new.reader.place ≡ (read_of t p).next =
         ap (λ (r : Reader). r.place) c.read-found.ensures.1 ∙ ap (λ (b : List ℕ). (read_of b p).next) l.invariant.0 in
-    let fits : h.bytes < 2 ^ 64 = c.tell-handed.type_inv.0.fits in (
+    let fits : h.bytes < 2 ^ 64 = omega arith in (
       ap (λ (r : Reader). r.bytes.now) c.read-found.ensures.1 ∙ l.invariant.0,
       sym c.tell-handed.ensures.0,
       subst (λ (q : ℕ). Holds t q h) (sym e) (goes_on t p _ h (l.invariant.2.on c.loop-handed-test.true) c.tell-handed.ensures.1 fits),
