@@ -1,6 +1,6 @@
 /*
  * Tunebriar: a proved emulator and job translator for the FM25Q16 serial flash
- * chip, as document 01 has it. `rt staticlib tunebriar` builds libtunebriar.a,
+ * chip, as document 01 has it. `sh host/library` builds libtunebriar.a,
  * which exports these nine functions and nothing else.
  *
  * Pointers. What follows no contract can say, so the caller must see to it:

@@ -4,7 +4,8 @@
 Run once, at the top, after the kit's port.py; the port of docs/PORT.md used it so. It goes by text, over .antt and .rt files,
 must-fail edits, and what stands in backticks in the pages. A name with a capital inside gets underscores. In a name with dashes that
 a file of specs/ or proofs/ declares, a dash stays where it joins names alone, as in `patched-length`, and is an underscore
-where one of them is a plain word; a lemma that would then have the name of a word gets `_lem`. It prints the names that fall together in a file, for a person to look at.
+where one of them is a plain word, and in a field or a constructor; a lemma that would then have the name of a word gets `_lem`.
+It prints the names that fall together in a file, for a person to look at.
 """
 
 import glob
@@ -13,7 +14,6 @@ import sys
 
 TOKEN = re.compile(r"[A-Za-z_◌ℓμ'₀-₉0-9][\w'◌₀-₉-]*")
 DECLARED = re.compile(r"^ *(?:abbrev |unfoldable |pub )*(?:data |record )?(?![-–]{2})([^\s(){}:;]+)(?: \{[^{}]*\})* :", re.M)
-FIELD = re.compile(r"^ +(?:pub )?([^\s(){}:;]+) :", re.M)
 # words of the kit that a lemma's name may be joined to by a dash
 KIT = set("if length drop take append set replicate true false zero suc cons nil get_or length min max reverse".split())
 
@@ -47,22 +47,42 @@ def texts():
         yield from sorted(glob.glob("crates/*/" + kind, recursive=True))
 
 
-def declared(pattern, form=DECLARED):
+def declared(pattern):
     found = set()
     for p in glob.glob(pattern):
-        found |= {it for it in form.findall(read(p)) if TOKEN.fullmatch(it)}
+        found |= {it for it in DECLARED.findall(read(p)) if TOKEN.fullmatch(it)}
+    return found
+
+
+def fields(pattern):
+    """The fields of records and the constructors of data."""
+    found = set()
+    for p in glob.glob(pattern):
+        inside = False
+        for line in read(p).split("\n"):
+            if re.match(r"(pub )?(record|data)\b", line):
+                inside = True
+            elif line and not line.startswith((" ", "--")):
+                inside = False
+            m = re.match(r"  (?:pub )?([^\s(){}:;]+) :", line)
+            if inside and m and TOKEN.fullmatch(m[1]):
+                found.add(m[1])
     return found
 
 
 def main():
     in_specs = declared("crates/*/specs/*.antt")
-    in_proofs = declared("crates/*/proofs/*.antt")
+    every = in_specs | declared("crates/*/proofs/*.antt")
+    lemmas = {it for p in glob.glob("crates/*/proofs/*.antt") for it in re.findall(r"(?m)^(?:abbrev |pub )*([^\s(){}:;]+)(?: \{[^{}]*\})* :", read(p))}
+    of_records = fields("crates/*/specs/*.antt") | fields("crates/*/proofs/*.antt")
     words = {camel(it) for it in in_specs if "-" not in it} | KIT
-    own = {it: dashes(camel(it), words) for it in in_specs | in_proofs if "-" in it and is_low(it)}
-    fields = declared("crates/*/specs/*.antt", FIELD) | declared("crates/*/proofs/*.antt", FIELD)
-    for it, to in own.items():
-        if to in words and it not in fields:
-            own[it] = to + "_lem"
+    taken = {camel(it) for it in every if "-" not in it}
+    own = {}
+    for it in sorted(every):
+        if "-" in it and is_low(it):
+            own[it] = it.replace("-", "_") if it in of_records else dashes(camel(it), words)
+            if own[it] in taken and (it in lemmas or it not in of_records):
+                own[it] += "_lem"
 
     def turn(m):
         name = m[0]

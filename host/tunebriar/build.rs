@@ -1,5 +1,5 @@
 //! Finds the proved library: `libtunebriar.a` in `TUNEBRIAR_LIB_DIR`, or where
-//! `rt staticlib tunebriar` puts it, the repository's `target/staticlib`.
+//! `host/library` puts it, the repository's `target/staticlib`.
 
 use std::env;
 use std::path::{Path, PathBuf};
@@ -12,7 +12,7 @@ fn main() {
     println!("cargo::rustc-link-search=native={}", folder.display());
     if !archive.is_file() {
         println!(
-            "cargo::error={} is not there: run `rt staticlib tunebriar`, or set TUNEBRIAR_LIB_DIR",
+            "cargo::error={} is not there: run `sh host/library`, or set TUNEBRIAR_LIB_DIR",
             archive.display()
         );
     }

@@ -3,7 +3,7 @@ use mathlib.Core.Path.{◌≡◌, refl, sym, ap, ◌∙◌}
 use mathlib.Core.Bool.{Bool, true, false, not, ◌&&◌, ◌||◌}
 use mathlib.Core.List.{List, [], ◌∷◌}
 use mathlib.Core.Logic.{⊎_elim}
-use Prim.Native.Nat.{ℕ, ◌≤◌, ◌<◌}
+use Prim.Native.Nat.{ℕ, ◌<◌}
 use native.Mathlib.Omega.{arith}
 use lib.ListN.{get_or, take}
 use borrow.Author.Tests.{lt-ltb, le-leb}
@@ -147,7 +147,7 @@ module _ (p : Part) (steady : Steady p) (r : Regs) (b : List ℕ) (x : ℕ) (hig
   formed-idle i (Writes Program) a = written Program a r h.held h.small refl refl
   formed-idle i (Writes (Erase u)) a = written (Erase u) a r h.held h.small refl refl
   formed-idle i (Writes WriteStatus) a =
-      written WriteStatus a (p.status_written r b) (steady.status_held r b h.held) (steady.status_small r b) (steady.status_wel r b) (steady.status-awake r b)
+      written WriteStatus a (p.status_written r b) (steady.status_held r b h.held) (steady.status_small r b) (steady.status_wel r b) (steady.status_awake r b)
 
   formed_at : (v : Verdict) → verdict_of p r b x high ≡ v → Formed p (regs_after p r b v)
   formed_at (CarriedOut k) e =

@@ -101,6 +101,6 @@ module _ (part s : ℕ) (job payload buffer : List ℕ) (served : (translate_of 
         subst (λ (t : List ℕ). Means part s job payload t kept m l) (sym tape-is)
         (record {
           played = tape-played ∙ ap (λ (b : Bill). replay_seen (played_told (kept_of (all_regs_meant (part_of part) (regs_of kept) (steps_of job))) (raised m b)) (array_meant (part_of part) payload l (steps_of job))) (sym bill-is);
-          none-ignored = tape_heeded;
+          none_ignored = tape_heeded;
           long = tape-long part s job payload unrefused ∙ ap (λ (b : Bill). b.length) (sym bill-is);
         })

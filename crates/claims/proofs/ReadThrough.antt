@@ -36,7 +36,7 @@ moves r = sym (next-told r.place (answer r))
 
 -- a tape that 30 and 31 let pass
 pub record Clean (t : List ℕ) : Type 0 where
-  pub whole-records : whole t ≡ true
+  pub whole_records : whole t ≡ true
   pub good : (p : ℕ) → p < records t → good_record t p ≡ true
 
 module _ (r : Reader) (start : r.place ≡ 0) (clean : Clean r.bytes.now) where
@@ -54,7 +54,7 @@ module _ (r : Reader) (start : r.place ≡ 0) (clean : Clean r.bytes.now) where
       let ih = place_is k (omega arith) in
       moves (after_reads k r)
       ∙ (λ i. next_place (ih i) (read_at (same_bytes k i).now (ih i)))
-      ∙ ap (next_place k) (read_said t k clean.whole-records (omega arith) (clean.good k (omega arith)))
+      ∙ ap (next_place k) (read_said t k clean.whole_records (omega arith) (clean.good k (omega arith)))
       ∙ said_moves t k ∙ add-one k
 
   -- the k-th read gives record k of the core
@@ -64,14 +64,14 @@ module _ (r : Reader) (start : r.place ≡ 0) (clean : Clean r.bytes.now) where
       let t = r.bytes.now in
       ap (rec_of t) (answer-is (after_reads k r) a e)
       ∙ (λ i. rec_of t (read_at (same_bytes k i).now (place_is k (omega arith) i)))
-      ∙ ap (rec_of t) (read_said t k clean.whole-records h (clean.good k h)) ∙ sym (said_rec t k)
+      ∙ ap (rec_of t) (read_said t k clean.whole_records h (clean.good k h)) ∙ sym (said_rec t k)
 
   -- a read at the place after the last record gives the end
   at_end : (k : ℕ) → (after_reads k r).place ≡ records r.bytes.now → answer (after_reads k r) ≡ End
   unfolding read_at if◌then◌else◌
   at_end k e =
       let n = records r.bytes.now in
-      (λ i. read_at (same_bytes k i).now (e i)) ∙ rw (clean.whole-records, le-leb n n (omega arith))
+      (λ i. read_at (same_bytes k i).now (e i)) ∙ rw (clean.whole_records, le-leb n n (omega arith))
 
   -- .. and leaves it
   rests : (k : ℕ) → records r.bytes.now ≤ k → (after_reads k r).place ≡ records r.bytes.now

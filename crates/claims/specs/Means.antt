@@ -30,5 +30,5 @@ pub record Means (part s : ℕ) (job payload t : List ℕ) (kept : Kept) (m : Me
       ≡ replay_seen
       (played_told (kept_of (all_regs_meant (part_of part) (regs_of kept) (steps_of job))) (raised m (figures part s job payload)))
       (array_meant (part_of part) payload l (steps_of job))
-  pub none-ignored : ignored_in (part_of part) (recs_of t) (state (regs_of kept) l m) ≡ 0
+  pub none_ignored : ignored_in (part_of part) (recs_of t) (state (regs_of kept) l m) ≡ 0
   pub long : length t ≡ (figures part s job payload).length

@@ -33,7 +33,7 @@ apart lo hi a n e = go (ltb (max a lo) (min (a + n) hi)) refl e
 -- a protected area begins and ends with a page: so where one byte is bare, its page is
 pub bare_page : (p : Part) → Sound p → (s a n : ℕ) → 0 < n → Bare p s a n → Bare p s (page_start a) page
 bare_page p h s a n k e =
-    let lo = h.lo-page s in
-    let hi = h.hi-page s in
+    let lo = h.lo_page s in
+    let hi = h.hi_page s in
     let f : min (a + n) (p.hi s) ≤ max a (p.lo s) = apart (p.lo s) (p.hi s) a n (sym (first_protected_lem p s a n) ∙ e) in
     first_protected_lem p s (page_start a) page ∙ overlap_no (p.lo s) (p.hi s) (page_start a) page (omega arith)

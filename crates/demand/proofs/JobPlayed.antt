@@ -19,7 +19,7 @@ use Rattle.laws.proofs.Parts.{part_tapeable}
 use Rattle.demand.proofs.Fit.{Fit}
 use Rattle.demand.proofs.Accept.{JobOk, job_ok}
 use Rattle.demand.proofs.Demand3.{after_job, demand3}
-use Rattle.demand.proofs.NoneIgnored.{none-ignored}
+use Rattle.demand.proofs.NoneIgnored.{none_ignored}
 use Rattle.demand.proofs.Holds.{recs_ok}
 
 -- none of 1 and 20 to 25
@@ -43,7 +43,7 @@ module _ (part s : ℕ) (job payload : List ℕ) (ok : (job_refusal part s job (
     job-played = demand3 (part_of part) (part_tapeable part) payload (steps_of job) (state (regs_of kept) l m) fit steps_ok
 
     pub job-none-ignored : ignored_in (part_of part) (recs_of_job part job payload) (state (regs_of kept) l m) ≡ 0
-    job-none-ignored = none-ignored (part_of part) (part_tapeable part) payload (steps_of job) (state (regs_of kept) l m) fit steps_ok
+    job-none-ignored = none_ignored (part_of part) (part_tapeable part) payload (steps_of job) (state (regs_of kept) l m) fit steps_ok
 
   pub job_recs_ok : RecsOk (recs_of_job part job payload)
   job_recs_ok = recs_ok (part_of part) (part_tapeable part) payload (steps_of job)

@@ -62,8 +62,8 @@ unfolding play ignored_in
 ignored-counted p [] s = omega arith
 ignored-counted p (e ∷ es) s = ignored-counted p es (play_rec p e s) ∙ omega (arith, rec_ignored p e s)
 
-pub none-ignored : (p : Part) → Tapeable p → (payload : List ℕ) (ws : List Step) (s : State) → Fit p s → JobOk p s.regs.setting (length payload) ws
+pub none_ignored : (p : Part) → Tapeable p → (payload : List ℕ) (ws : List Step) (s : State) → Fit p s → JobOk p s.regs.setting (length payload) ws
     → ignored_in p (job_recs p payload ws) s ≡ 0
-none-ignored p h payload ws s f k =
+none_ignored p h payload ws s f k =
     let e = ap (λ (t : State). t.meter.ignored) (demand3 p h payload ws s f k) in
     omega (arith, ignored-counted p (job_recs p payload ws) s)

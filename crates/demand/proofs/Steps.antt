@@ -86,7 +86,7 @@ module _ (p : Part) (law : Tapeable p) where
       code Chip = refl
 
   guard_says : (g : ℕ) → g ≤ p.setting_limit → Says p (Writes WriteStatus) (p.guard_bytes g)
-  guard_says g k = record { not_empty = law.guard_some g; code = law.guard-code g; offers = law.guards g k }
+  guard_says g k = record { not_empty = law.guard_some g; code = law.guard_code g; offers = law.guards g k }
 
   module _ (payload : List ℕ) (s : State) (fit : Fit p s) where
     -- the records of a step do what it means, and the records es come after them

@@ -11,7 +11,6 @@ use borrow.Author.Tests.{eqb-true, ltb-false, not-false}
 use Rattle.lists.specs.Choice.{◌=?◌, ◌<?◌}
 use Rattle.lists.proofs.Choice.{either_false}
 use Rattle.rules.specs.declared.Step.{Step}
-use Rattle.rules.specs.declared.Step.TheVariants.{Lay}
 use Rattle.rules.specs.declared.Decoded.{Decoded}
 use Rattle.rules.specs.declared.Decoded.TheVariants.{Good}
 use Rattle.rules.specs.Part.{Part}

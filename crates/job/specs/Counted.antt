@@ -31,9 +31,9 @@ pub record Counted (job : List ℕ) : Type 0 where
 -- at most what n such steps cost
 pub record Upto (b : Bill) (n : ℕ) : Type 0 where
   pub programs_few : b.programs ≤ page_limit * n
-  pub erases-few : b.erases ≤ n
+  pub erases_few : b.erases ≤ n
   pub register_writes_few : b.register_writes ≤ n
-  pub length-few : b.length ≤ tape_length page_limit * n
+  pub length_few : b.length ≤ tape_length page_limit * n
 
 -- bytes that say no step cost nothing
 abbrev pub decoded_bill : Decoded → Bill

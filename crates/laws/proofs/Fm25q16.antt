@@ -1,6 +1,6 @@
 -- The FM25Q16 keeps the laws of a chip.
 use mathlib.Core.Path.{◌≡◌, refl}
-use mathlib.Core.Bool.{Bool, true, false, ◌&&◌}
+use mathlib.Core.Bool.{Bool, true, ◌&&◌}
 use mathlib.Core.List.{List, [], ◌∷◌}
 use mathlib.Core.Logic.{◌⊎◌, ⊎_elim, ⊎_map, ◌↔◌}
 use Prim.Native.Nat.{ℕ, zero, suc, ◌*◌, ◌/◌, ◌%◌, ◌≤◌, ◌<◌}
@@ -13,9 +13,9 @@ use Rattle.lists.proofs.Choice.{both_true, either_true, by_choice}
 use Rattle.rules.specs.declared.EraseUnit.{EraseUnit}
 use Rattle.rules.specs.declared.EraseUnit.TheVariants.{Sector, Block32, Block64, Chip}
 use Rattle.rules.specs.declared.Write.{Write}
-use Rattle.rules.specs.declared.Write.TheVariants.{Program, Erase, WriteStatus}
+use Rattle.rules.specs.declared.Write.TheVariants.{Erase}
 use Rattle.rules.specs.declared.Kind.{Kind}
-use Rattle.rules.specs.declared.Kind.TheVariants.{WriteEnable, ReadStatusLow, ReadStatusHigh, Wake, Writes}
+use Rattle.rules.specs.declared.Kind.TheVariants.{ReadStatusLow, ReadStatusHigh, Wake, Writes}
 use Rattle.rules.specs.declared.Command.TheVariants.{Known}
 use Rattle.rules.specs.declared.Regs.{Regs}
 use Rattle.rules.specs.Kinds.{code_of}
@@ -83,8 +83,8 @@ fm_sound =
       size_is = refl;
       not_empty = lit≤ tt;
       few = lit≤ tt;
-      lo-page = λ s. (fm_lo_lem s).whole;
-      hi-page = λ s. (fm_hi_lem s).whole;
+      lo_page = λ s. (fm_lo_lem s).whole;
+      hi_page = λ s. (fm_hi_lem s).whole;
       settings = lit≤ tt;
       byte_codes = refl;
       distinct_codes = refl;
@@ -115,7 +115,7 @@ fm_tapeable =
       programs = λ n h. record { known = refl; shape = rw (le-leb 5 n h) };
       unit_erased = λ u a e. unit_erased u a;
       guards = λ g h. record { known = refl; shape = refl };
-      guard-code = λ g. refl;
+      guard_code = λ g. refl;
       guard_some = λ g. lit≤ tt;
       guard_short = λ g. lit≤ tt;
       guard_written = guard_written;
@@ -180,5 +180,5 @@ fm_steady =
       status_held = λ r b h. word_small (fm_status_written r b) (fm_written r b).small;
       status_small = λ r b. (fm_written r b).small;
       status_wel = λ r b. (fm_written r b).wel;
-      status-awake = λ r b. (fm_written r b).awake;
+      status_awake = λ r b. (fm_written r b).awake;
     }

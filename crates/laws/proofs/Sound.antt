@@ -22,8 +22,8 @@ pub record Sound (p : Part) : Type 0 where
   -- three address bytes reach all of it
   pub few : blocks ≤ 256
   -- a protected area begins and ends with a page
-  pub lo-page : (s : ℕ) → p.lo s % page ≡ 0
-  pub hi-page : (s : ℕ) → p.hi s % page ≡ 0
+  pub lo_page : (s : ℕ) → p.lo s % page ≡ 0
+  pub hi_page : (s : ℕ) → p.hi s % page ≡ 0
   -- a job can name every setting that the chip holds
   pub settings : p.setting_limit ≤ guard_limit
   -- a code is a byte, and stands in one row

@@ -32,7 +32,7 @@ pub record Steady (p : Part) : Type 0 where
   pub status_held : (r : Regs) (b : List ℕ) → status_of r < p.status_end → status_of (p.status_written r b) < p.status_end
   pub status_small : (r : Regs) (b : List ℕ) → (p.status_written r b).setting < 32
   pub status_wel : (r : Regs) (b : List ℕ) → (p.status_written r b).wel ≡ r.wel
-  pub status-awake : (r : Regs) (b : List ℕ) → (p.status_written r b).awake ≡ r.awake
+  pub status_awake : (r : Regs) (b : List ℕ) → (p.status_written r b).awake ≡ r.awake
 
 -- so no code puts it to sleep
 pub never_sleeps : (p : Part) → Steady p → p.sleeps ≡ false → (op : ℕ) → command_of p op ≡ Known Sleep → ⊥

@@ -28,7 +28,7 @@ pub record Tapeable (p : Part) : Type 0 where
   pub unit_erased : (u : EraseUnit) (a : ℕ) → p.erases u ≡ true → Offers p (Writes (Erase u)) (length (erase_bytes u a))
   pub guards : (g : ℕ) → g ≤ p.setting_limit → Offers p (Writes WriteStatus) (length (p.guard_bytes g))
   -- a guard is a status write of three bytes at most
-  pub guard-code : (g : ℕ) → get_or (p.guard_bytes g) 0 0 ≡ code_of (Writes WriteStatus)
+  pub guard_code : (g : ℕ) → get_or (p.guard_bytes g) 0 0 ≡ code_of (Writes WriteStatus)
   pub guard_some : (g : ℕ) → 1 ≤ length (p.guard_bytes g)
   pub guard_short : (g : ℕ) → length (p.guard_bytes g) ≤ 3
   -- .. and makes the registers what a guard means

@@ -30,7 +30,7 @@ use Rattle.lines.proofs.Told.{listing_is}
 -- what `fault_of` lets pass
 pub record Listable (t : List ℕ) : Type 0 where
   pub short : length t ≤ listing_limit
-  pub whole-records : whole t ≡ true
+  pub whole_records : whole t ≡ true
   pub good : first_bad t ≡ Nothing
 
 pub listable : (t : List ℕ) → accepted (fault_of t) ≡ true → Listable t
@@ -42,7 +42,7 @@ listable t e = go (listing_limit <? length t) (whole t) (first_bad t) refl refl 
     go true w f h k g e = absurd (true≢false (sym e))
     go false false f h k g e = absurd (true≢false (sym e))
     go false true (At i) h k g e = absurd (true≢false (sym e))
-    go false true Nothing h k g e = record { short = ltb-false listing_limit (length t) h; whole-records = k; good = g }
+    go false true Nothing h k g e = record { short = ltb-false listing_limit (length t) h; whole_records = k; good = g }
 
 -- ---- a record of it
 
@@ -50,7 +50,7 @@ listable t e = go (listing_limit <? length t) (whole t) (first_bad t) refl refl 
 pub read_there : (t : List ℕ) (p : ℕ) → Listable t → p < records t → read_at t p ≡ said_at t p
 unfolding first_bad
 read_there t p c h =
-    read_said t p c.whole-records h
+    read_said t p c.whole_records h
     (not-false (good_record t p) (first_none (λ (x : ℕ). not (good_record t x)) 0 (records t) c.good p (omega arith) (omega arith)))
 
 pub next-there : (t : List ℕ) (p : ℕ) → Listable t → p < records t → (read_of t p).next ≡ p + 1
@@ -74,7 +74,7 @@ line_there t p c h = rw (read_there t p c h) (go (eqb (kind_at t p) 0) (eqb (kin
 
 pub line_past : (t : List ℕ) (p : ℕ) → Listable t → records t ≤ p → line_of t p (read_at t p) ≡ []
 unfolding read_at if◌then◌else◌
-line_past t p c h = rw (c.whole-records, le-leb (records t) p h)
+line_past t p c h = rw (c.whole_records, le-leb (records t) p h)
 
 -- ---- lengths
 

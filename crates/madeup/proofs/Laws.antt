@@ -10,7 +10,6 @@ use borrow.Author.Tests.{eqb-true, le-leb}
 use Rattle.lists.specs.Choice.{if◌then◌else◌}
 use Rattle.rules.specs.declared.EraseUnit.{EraseUnit}
 use Rattle.rules.specs.declared.EraseUnit.TheVariants.{Sector, Block32, Block64, Chip}
-use Rattle.rules.specs.declared.Write.{Write}
 use Rattle.rules.specs.declared.Write.TheVariants.{Erase}
 use Rattle.rules.specs.declared.Kind.{Kind}
 use Rattle.rules.specs.declared.Kind.TheVariants.{ReadStatusLow, Writes}
@@ -36,8 +35,8 @@ mu_sound =
       size_is = refl;
       not_empty = lit≤ tt;
       few = lit≤ tt;
-      lo-page = λ s. omega arith;
-      hi-page = λ s. refl;
+      lo_page = λ s. omega arith;
+      hi_page = λ s. refl;
       settings = lit≤ tt;
       byte_codes = refl;
       distinct_codes = refl;
@@ -65,7 +64,7 @@ mu_tapeable =
       programs = λ n h. record { known = refl; shape = rw (le-leb 5 n h) };
       unit_erased = unit_erased;
       guards = λ g h. record { known = refl; shape = refl };
-      guard-code = λ g. refl;
+      guard_code = λ g. refl;
       guard_some = λ g. lit≤ tt;
       guard_short = λ g. lit≤ tt;
       guard_written = guard_written;
@@ -96,5 +95,5 @@ mu_steady =
       status_held = status_held;
       status_small = λ r b. omega arith;
       status_wel = λ r b. refl;
-      status-awake = λ r b. refl;
+      status_awake = λ r b. refl;
     }

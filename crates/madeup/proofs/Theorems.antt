@@ -26,7 +26,7 @@ use Rattle.demand.specs.Ignored.{ignored_in}
 use Rattle.demand.proofs.Fit.{Fit}
 use Rattle.demand.proofs.Accept.{job_ok}
 use Rattle.demand.proofs.Demand3.{after_job, demand3}
-use Rattle.demand.proofs.NoneIgnored.{none-ignored}
+use Rattle.demand.proofs.NoneIgnored.{none_ignored}
 use Rattle.claims.proofs.Table.{Decides, rows_decide}
 use Rattle.claims.proofs.Programs.{Cleared, program_only_clears}
 use Rattle.claims.proofs.Erases.{UnitErased, erase_is_its_unit}
@@ -64,4 +64,4 @@ module _ (job payload : List ℕ) (s : State) (fit : Fit madeup s)
   job_means = demand3 madeup mu_tapeable payload (steps_of job) s fit (job_ok madeup _ (length payload) job 0 (step_count job) ok)
 
   pub job_heeded : ignored_in madeup (job_recs madeup payload (steps_of job)) s ≡ 0
-  job_heeded = none-ignored madeup mu_tapeable payload (steps_of job) s fit (job_ok madeup _ (length payload) job 0 (step_count job) ok)
+  job_heeded = none_ignored madeup mu_tapeable payload (steps_of job) s fit (job_ok madeup _ (length payload) job 0 (step_count job) ok)

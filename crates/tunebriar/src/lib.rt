@@ -1,4 +1,4 @@
-// The C entries: thin, over byte slices and numbers. include/tunebriar.h declares them.
+// The C entries: thin, over byte slices and numbers. The static library `tunebriar_c` exports each under its name; include/tunebriar.h declares them.
 #![tactic(auto)]
 
 ghost use Rattle.std.specs.Prelude.{◌≡◌, length};
@@ -141,8 +141,7 @@ fn replayed(kept: Kept, m: Meter, t: Replayed) -> TbAnswer
 // ---- the entries
 
 // The caller's meter brought up to date where it lies; thin, since a lent struct is proved by hand.
-#[unsafe(no_mangle)]
-pub extern "C" fn tb_count(part: u32, meter: &mut Meter, number: u32, op: u32) -> u32
+pub fn tb_count(part: u32, meter: &mut Meter, number: u32, op: u32) -> u32
     ensures { metered result meter.new ≡ count_of part meter.old number op }
 {
     let t = chip::count::count(part, *meter, number, op);
@@ -150,8 +149,7 @@ pub extern "C" fn tb_count(part: u32, meter: &mut Meter, number: u32, op: u32) -
     t.number
 }
 
-#[unsafe(no_mangle)]
-pub extern "C" fn tb_transact(
+pub fn tb_transact(
     part: u32,
     regs: Kept,
     meter: Meter,
@@ -167,36 +165,26 @@ pub extern "C" fn tb_transact(
     transacted(regs, meter, t)
 }
 
-#[unsafe(no_mangle)]
-pub extern "C" fn tb_finish(part: u32, regs: Kept) -> TbEvent
+pub fn tb_finish(part: u32, regs: Kept) -> TbEvent
     ensures { result ≡ tb_event (finish_of part regs) }
 {
     event(regs, chip::finish(part, regs))
 }
 
-#[unsafe(no_mangle)]
-pub extern "C" fn tb_power_cycle(part: u32, regs: Kept) -> TbEvent
+pub fn tb_power_cycle(part: u32, regs: Kept) -> TbEvent
     ensures { result ≡ tb_event (power_cycle_of part regs) }
 {
     event(regs, chip::power_cycle(part, regs))
 }
 
-#[unsafe(no_mangle)]
-pub extern "C" fn tb_replay(
-    part: u32,
-    regs: Kept,
-    meter: Meter,
-    array: &mut [u8],
-    tape: &[u8],
-) -> TbAnswer
+pub fn tb_replay(part: u32, regs: Kept, meter: Meter, array: &mut [u8], tape: &[u8]) -> TbAnswer
     ensures { tb_played result array.new ≡ tb_replay (replay_of part regs meter array.old tape.now) }
 {
     let t = replay::replay(part, regs, meter, array, tape);
     replayed(regs, meter, t)
 }
 
-#[unsafe(no_mangle)]
-pub extern "C" fn tb_replay_first(
+pub fn tb_replay_first(
     part: u32,
     regs: Kept,
     meter: Meter,
@@ -210,8 +198,7 @@ pub extern "C" fn tb_replay_first(
     replayed(regs, meter, t)
 }
 
-#[unsafe(no_mangle)]
-pub extern "C" fn tb_read(tape: &[u8], place: u64) -> TbRecord
+pub fn tb_read(tape: &[u8], place: u64) -> TbRecord
     ensures { result ≡ tb_record (read_of tape.now place) }
 {
     let r = tape::reading_at(tape, place as usize);
@@ -291,22 +278,14 @@ fn quoted(q: Quoted) -> TbBill
     }
 }
 
-#[unsafe(no_mangle)]
-pub extern "C" fn tb_translate(
-    part: u32,
-    setting: u32,
-    job: &[u8],
-    payload: &[u8],
-    tape: &mut [u8],
-) -> TbTape
+pub fn tb_translate(part: u32, setting: u32, job: &[u8], payload: &[u8], tape: &mut [u8]) -> TbTape
     ensures { tb_translated result tape.new ≡ tb_translate (translate_of part setting job.now payload.now tape.old) }
 {
     let t = translate::translate(part, setting, job, payload, tape);
     translated(t)
 }
 
-#[unsafe(no_mangle)]
-pub extern "C" fn tb_quote(part: u32, setting: u32, job: &[u8], payload: &[u8]) -> TbBill
+pub fn tb_quote(part: u32, setting: u32, job: &[u8], payload: &[u8]) -> TbBill
     ensures { result ≡ tb_bill (quote_of part setting job.now (length payload.now)) }
 {
     quoted(job::quote(part, setting, job, payload.len()))

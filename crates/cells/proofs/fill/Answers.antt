@@ -1,5 +1,4 @@
 use mathlib.Core.Path.{refl}
-use Prim.Native.Nat.{◌-◌}
 use native.Mathlib.Omega.{arith}
 use Rattle.lists.proofs.Front.{front_none, front_more, front_all}
 use Rattle.cells.proofs.fill.Goals as goal

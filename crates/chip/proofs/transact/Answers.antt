@@ -5,7 +5,7 @@ use Rattle.laws.proofs.Parts.{part_sound}
 use Rattle.lists.proofs.Lent.{put_front, front_long}
 use Rattle.rules.specs.declared.Regs.{Regs}
 use Rattle.laws.proofs.Answered.{transact_served_lem, transact_refused_lem, out-after}
-use Rattle.laws.proofs.Accepted.{Taken, taken}
+use Rattle.laws.proofs.Accepted.{taken}
 use Rattle.rules.specs.Transaction.{out_at, regs_after}
 use Rattle.rules.specs.Status.{kept_of}
 use Rattle.rules.specs.Parts.{part_of}

@@ -1,4 +1,3 @@
-use borrow.Author.Rules.{rules}
 use mathlib.Core.Path.{◌≡◌, sym, ap, subst, ◌∙◌}
 use mathlib.Core.List.{List}
 use Prim.Native.Nat.{ℕ, ◌<◌, ◌^◌}
@@ -14,7 +13,7 @@ loop-handed-smaller c =
     let t = c.args.tape.now in
     let p = l.reader.place in
     let e : c.read-found.new.reader.place ≡ (read_of t p).next =
-        ap (λ (r : Reader). r.place) c.read-found.ensures.1 ∙ ap (λ (b : List ℕ). (read_of b p).next) l.invariant.0 in
+    ap (λ (r : Reader). r.place) c.read-found.ensures.1 ∙ ap (λ (b : List ℕ). (read_of b p).next) l.invariant.0 in
     rw (e, c.loop-handed-test.true) (falls t p _ _ (l.invariant.2.on c.loop-handed-test.true) c.tell-handed.ensures.1)
 
 pub loop-handed-preserved : goal.loop-handed-preserved
@@ -24,7 +23,7 @@ loop-handed-preserved c =
     let p = l.reader.place in
     let h = c.tell-handed.result in
     let e : c.read-found.new.reader.place ≡ (read_of t p).next =
-        ap (λ (r : Reader). r.place) c.read-found.ensures.1 ∙ ap (λ (b : List ℕ). (read_of b p).next) l.invariant.0 in
+    ap (λ (r : Reader). r.place) c.read-found.ensures.1 ∙ ap (λ (b : List ℕ). (read_of b p).next) l.invariant.0 in
     let fits : h.bytes < 2 ^ 64 = omega arith in (
       ap (λ (r : Reader). r.bytes.now) c.read-found.ensures.1 ∙ l.invariant.0,
       sym c.tell-handed.ensures.0,

@@ -10,8 +10,7 @@ use Rattle.listing.proofs.tell.Goals as goal
 
 pub returns-then-n-eq0 : goal.returns-then-n-eq0
 returns-then-n-eq0 c =
-    let l = c.record_line-n.ensures in
-    (
+    let l = c.record_line-n.ensures in (
       refl,
       told_last c.args.tape.now c.args.place c.args.done.now c.requires.1
           (past c.args.tape.now c.args.place c.args.done.now c.args.found c.requires.0 c.requires.1 (omega (arith, l.long, c.if-n-eq0.true))),

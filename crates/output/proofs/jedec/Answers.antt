@@ -1,5 +1,4 @@
 use Rattle.lists.proofs.Front.{front_none, front_more, front_all}
-use Prim.Native.Nat.{◌-◌}
 use native.Mathlib.Omega.{arith}
 use Rattle.output.proofs.jedec.Goals as goal
 

@@ -1,13 +1,10 @@
 use Rattle.replay.proofs.Steps.{on-array, said_played, said_sent}
 use Rattle.tape.proofs.Good.{good_short}
-use Rattle.rules.specs.Play.{state, play_rec}
+use Rattle.rules.specs.Play.{play_rec}
 use Rattle.rules.specs.Parts.{part_of}
-use Rattle.rules.specs.Tape.{rec_at}
-use Rattle.tape.specs.Record.{rec_of}
-use Rattle.rules.specs.declared.AtPlace.{AtPlace}
 use Rattle.rules.specs.declared.Sent.{Sent}
 use native.Mathlib.Omega.{arith}
-use mathlib.Core.Path.{◌≡◌, sym, ap, ◌∙◌}
+use mathlib.Core.Path.{sym, ap, ◌∙◌}
 use Rattle.replay.proofs.play_at.Goals as goal
 
 pub play_sent-requires : goal.play_sent-requires

@@ -1,6 +1,6 @@
 use mathlib.Core.Path.{ap}
 use mathlib.Core.Bool.{not}
-use Rattle.laws.proofs.Accepted.{Opened, opened_by, past_three}
+use Rattle.laws.proofs.Accepted.{opened_by, past_three}
 use Rattle.rules.specs.Replay.{replay_refusal}
 use Rattle.lists.specs.Choice.{if◌then◌else◌}
 use borrow.Author.Tests.{ne_eqb, eq-eqb}

@@ -1,5 +1,5 @@
 use Rattle.replay.proofs.Steps.{take_recs}
-use Rattle.replay.proofs.Checked.{Checked, checked, fewer, replay_served_lem, replay_refused_lem}
+use Rattle.replay.proofs.Checked.{checked, fewer, replay_served_lem, replay_refused_lem}
 use Rattle.replay.specs.Playable.{Playable}
 use Rattle.laws.specs.Room.{Room}
 use Rattle.rules.specs.Replay.{replay_told, replay_seen}

@@ -1,10 +1,8 @@
 use mathlib.Core.Path.{sym, ap, ◌∙◌}
-use mathlib.Core.Bool.{Bool, not}
-use mathlib.Core.List.{List}
-use Prim.Native.Nat.{ℕ, ◌-◌}
+use mathlib.Core.Bool.{not}
 use native.Mathlib.Omega.{arith}
 use Rattle.lists.specs.Places.{first_in}
-use Rattle.rules.specs.Tape.{records, good_record, first_bad}
+use Rattle.rules.specs.Tape.{records, first_bad}
 use Rattle.tape.proofs.Scan.{first_here, first_on, first_over}
 use Rattle.tape.proofs.first_bad.Invariants.{bad}
 use Rattle.tape.proofs.first_bad.Goals as goal

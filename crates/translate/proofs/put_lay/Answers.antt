@@ -3,7 +3,7 @@ use Rattle.translate.proofs.Pages.{lay-over, lay_turn}
 use Rattle.translate.specs.Spliced.{spliced}
 use Rattle.rules.specs.Records.{page_recs}
 use Rattle.rules.specs.Tape.{encode}
-use lib.ListN.{length, take, drop}
+use lib.ListN.{take, drop}
 use native.Mathlib.Omega.{arith}
 use Prim.Native.Nat.{ℕ, ◌+◌, ◌-◌, ◌*◌}
 use mathlib.Core.Path.{◌≡◌, refl, ap, ◌∙◌}

@@ -4,15 +4,13 @@ use Rattle.translate.proofs.Answer.{writable, translate_refused, translate_small
 use Rattle.job.proofs.Passed.{accepted-counted}
 use Rattle.demand.proofs.Holds.{recs_long}
 use Rattle.rules.specs.Translate.{tape_of, translate_told, translate_seen}
-use Rattle.rules.specs.JobRefusals.{job_refusal}
 use Rattle.rules.specs.Job.{steps_of}
 use Rattle.rules.specs.Parts.{part_of}
 use Rattle.rules.specs.declared.Translated.TheVariants.{Written, Refused}
 use Rattle.rules.specs.declared.Refusal.{Refusal}
 use Rattle.rules.specs.declared.Bill.{Bill}
-use lib.ListN.{length}
 use native.Mathlib.Omega.{arith}
-use mathlib.Core.Path.{◌≡◌, sym, ap, ◌∙◌}
+use mathlib.Core.Path.{sym, ap, ◌∙◌}
 use Rattle.translate.proofs.translate.Goals as goal
 
 pub returns-then-number-ne0 : goal.returns-then-number-ne0

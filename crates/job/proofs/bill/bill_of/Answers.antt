@@ -1,7 +1,5 @@
 use Rattle.job.proofs.Bills.{none_upto, plus_upto, bill-start, bill_more, bill_end}
-use Rattle.rules.specs.Bill.{◌plus◌}
 use mathlib.Core.Path.{sym, ◌∙◌}
-use Prim.Native.Nat.{◌-◌}
 use native.Mathlib.Omega.{arith}
 use Rattle.job.proofs.bill.bill_of.Goals as goal
 

@@ -1,5 +1,4 @@
 use mathlib.Core.Path.{sym, ◌∙◌}
-use Prim.Native.Nat.{◌-◌}
 use native.Mathlib.Omega.{arith}
 use Rattle.job.proofs.Steps.{steps_start, steps_go, steps_stop, steps_end}
 use Rattle.job.proofs.refuse.steps_refusal.Goals as goal
