@@ -5,7 +5,7 @@ Run once, at the top, after the kit's port.py; the port of docs/PORT.md used it 
 must-fail edits, and what stands in backticks in the pages. A name with a capital inside gets underscores. In a name with dashes that
 a file of specs/ or proofs/ declares, a dash stays where it joins names alone, as in `patched-length`, and is an underscore
 where one of them is a plain word, and in a field or a constructor; a lemma that would then have the name of a word gets `_lem`.
-It prints the names that fall together in a file, for a person to look at.
+The choice of crates/lists is named anew (`otherwise`, below). It prints the names that fall together in a file, for a person to look at.
 """
 
 import glob
@@ -70,6 +70,16 @@ def fields(pattern):
     return found
 
 
+def otherwise(text):
+    """Today's library has an `if◌then◌else◌` of its own, which opens by itself; ours, which stays shut, is `if◌then◌otherwise◌`."""
+    lines = []
+    for line in text.split("\n"):
+        code, mark, comment = line.partition("--")
+        code = code.replace("if◌then◌else◌", "if◌then◌otherwise◌")
+        lines.append(re.sub(r"(?<![\w'◌-])else(?![\w'◌-])", "otherwise", code) + mark + comment)
+    return "\n".join(lines)
+
+
 def main():
     in_specs = declared("crates/*/specs/*.antt")
     every = in_specs | declared("crates/*/proofs/*.antt")
@@ -93,6 +103,8 @@ def main():
     for p in texts():
         old = read(p)
         new = TOKEN.sub(turn, old)
+        if p.endswith(".antt") or "\nfile: specs/" in new:
+            new = otherwise(new)
         before, after = set(TOKEN.findall(old)), {}
         for it in before:
             after.setdefault(own.get(it, camel(it)), set()).add(it)

@@ -9,14 +9,14 @@ use native.Mathlib.Numerals.{add-one}
 use lib.Bits.{bit_and, and_mask}
 use lib.ListN.{length, get_or, drop, set}
 use lib.Seq.{drop-cons, drop-length}
-use Rattle.lists.specs.Choice.{if◌then◌else◌, ◌=?◌}
+use Rattle.lists.specs.Choice.{if◌then◌otherwise◌, ◌=?◌}
 use Rattle.lists.specs.Places.{tabulate}
 use Rattle.lists.proofs.Tabulate.{set_if, tab_at, tab_same}
 use Rattle.rules.specs.Cells.{cell}
 use Rattle.cells.specs.Page.{last_sent, programmed_at}
 
-if_and : (t : Bool) (old b d : ℕ) → (if t then bit_and old b else bit_and old d) ≡ bit_and old (if t then b else d)
-unfolding if◌then◌else◌
+if_and : (t : Bool) (old b d : ℕ) → (if t then bit_and old b otherwise bit_and old d) ≡ bit_and old (if t then b otherwise d)
+unfolding if◌then◌otherwise◌
 if_and true old b d = refl
 if_and false old b d = refl
 
@@ -24,7 +24,7 @@ cell_and : (off : ℕ) (bs : List ℕ) (j old d : ℕ) → cell off bs j old (bi
 unfolding cell last_sent
 cell_and off [] j old d = refl
 cell_and off (b ∷ bs) j old d =
-    ap (cell (suc off) bs j old) (if_and (off % 256 =? j) old b d) ∙ cell_and (suc off) bs j old (if off % 256 =? j then b else d)
+    ap (cell (suc off) bs j old) (if_and (off % 256 =? j) old b d) ∙ cell_and (suc off) bs j old (if off % 256 =? j then b otherwise d)
 
 and_ff : (old : ℕ) → old < 256 → bit_and old 255 ≡ old
 and_ff old h = and_mask old 8 ∙ mod-eq_of_lt h

@@ -7,7 +7,7 @@ use Prim.Native.Nat.{ℕ, ◌<◌}
 use native.Mathlib.Omega.{arith}
 use lib.ListN.{get_or}
 use borrow.Author.Tests.{ne_eqb, le-leb, lt-leb}
-use Rattle.lists.specs.Choice.{if◌then◌else◌}
+use Rattle.lists.specs.Choice.{if◌then◌otherwise◌}
 use Rattle.lists.proofs.Choice.{by_choice}
 use Rattle.rules.specs.declared.Kept.{Kept}
 use Rattle.rules.specs.declared.Meter.{Meter}
@@ -29,12 +29,12 @@ use Rattle.claims.proofs.Entry.{Unrefused, by_answer}
 
 -- with a part and with room it is served
 served_at : (part : ℕ) (m : Meter) (n op : ℕ) → is_part part ≡ true → Room m 1 → count_of part m n op ≡ metered 0 (meter_by_answer (part_of part) m n op)
-unfolding count_of if◌then◌else◌
+unfolding count_of if◌then◌otherwise◌
 served_at part m n op h k = rw (h, room_had m 1 k) refl
 
 -- a refusal's number leaves the meter
 left_at : (part : ℕ) (m : Meter) (n op : ℕ) → (n ≡ 0 → ⊥) → n < 10 → (count_of part m n op).meter ≡ m
-unfolding count_of meter_by_answer if◌then◌else◌
+unfolding count_of meter_by_answer if◌then◌otherwise◌
 left_at part m n op h k =
     by_choice (λ (t : Metered). t.meter ≡ m) (not (is_part part)) (metered 1 m) _ refl
     (by_choice (λ (t : Metered). t.meter ≡ m) (not (room m 1)) (metered 7 m) (metered 0 (meter_by_answer (part_of part) m n op)) refl told)
@@ -59,7 +59,7 @@ module _ (part : ℕ) (kept : Kept) (m : Meter) (l o b : List ℕ) (x wp : ℕ) 
   agreed n after c e = served_at part m n (get_or b 0 0) c.begun.known c.room ∙ ap (metered 0) e
 
   pub count_agrees : Agrees (transact_of part kept m l o b x wp).answer
-  unfolding meter_by_answer of_known if◌then◌else◌
+  unfolding meter_by_answer of_known if◌then◌otherwise◌
   count_agrees =
       by_answer part kept m l o b x wp (λ s. Agrees s.answer)
       (λ c k e.

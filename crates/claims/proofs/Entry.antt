@@ -8,7 +8,7 @@ use native.Mathlib.Omega.{arith}
 use lib.Dec.{lit≤}
 use lib.ListN.{length, get_or}
 use borrow.Author.Tests.{eqb-true, eqb-false, le-ltb}
-use Rattle.lists.specs.Choice.{if◌then◌else◌}
+use Rattle.lists.specs.Choice.{if◌then◌otherwise◌}
 use Rattle.lists.proofs.Choice.{by_choice}
 use Rattle.rules.specs.declared.Kept.{Kept}
 use Rattle.rules.specs.declared.Meter.{Meter}
@@ -38,7 +38,7 @@ FirstSays part b k = command_of (part_of part) (get_or b 0 0) ≡ Known k
 
 -- a transaction to which none of 1 to 7 applies is not refused
 pub not_refused : (part al : ℕ) (kept : Kept) (n x ol : ℕ) (m : Meter) → Taken part al kept n x ol m → (transact_refusal part al kept n x ol m).number ≡ 0
-unfolding transact_refusal if◌then◌else◌
+unfolding transact_refusal if◌then◌otherwise◌
 not_refused part al kept n x ol m c =
     rw (past_three part al kept _ c.begun, le-ltb transaction_limit n c.short, le-ltb 7 x c.bits, le-ltb ol n c.fits, room_had m 1 c.room) refl
 

@@ -5,7 +5,7 @@ use mathlib.Core.Bool.{Bool, true, false}
 use mathlib.Core.List.{[], ◌∷◌}
 use mathlib.Core.Logic.{◌⊎◌, ◌↔◌}
 use Prim.Native.Nat.{ℕ, ◌*◌}
-use Rattle.lists.specs.Choice.{if◌then◌else◌}
+use Rattle.lists.specs.Choice.{if◌then◌otherwise◌}
 use Rattle.rules.specs.declared.EraseUnit.{EraseUnit}
 use Rattle.rules.specs.Fm25q16.{fm_commands, fm_erases, fm_guard_bytes, fm25q16}
 use Rattle.rules.specs.Parts.{part_of}
@@ -35,7 +35,7 @@ unfolding part_of fm25q16 fm_guard_bytes
 guard_sends g = refl
 
 pub guard_clears_lem : (b : Bool) → cleared (part_of 1) b ≡ false
-unfolding part_of fm25q16 if◌then◌else◌
+unfolding part_of fm25q16 if◌then◌otherwise◌
 guard_clears_lem b = refl
 
 -- each line of its table of commands

@@ -5,7 +5,7 @@ use mathlib.Core.List.{List}
 use Prim.Native.Nat.{ℕ, ◌+◌, ◌≤◌}
 use lib.Dec.{lit≤}
 use lib.ListN.{length, get_or}
-use Rattle.lists.specs.Choice.{if◌then◌else◌, ◌=?◌}
+use Rattle.lists.specs.Choice.{if◌then◌otherwise◌, ◌=?◌}
 use Rattle.lists.proofs.Choice.{by_choice}
 use Rattle.lists.specs.Places.{tabulate}
 use Rattle.lists.specs.declared.Found.{Found}
@@ -39,7 +39,7 @@ Numbered (CarriedOut k) = Unit {0}
 Numbered (Ignored w) = (10 ≤ w.number) × (w.number ≤ 16)
 
 -- a test that ignores with a number of these, and what comes after it
-next : (t : Bool) (n : ℕ) (v : Verdict) → 10 ≤ n → n ≤ 16 → Numbered v → Numbered (if t then ignored n else v)
+next : (t : Bool) (n : ℕ) (v : Verdict) → 10 ≤ n → n ≤ 16 → Numbered v → Numbered (if t then ignored n otherwise v)
 next t n v h k g = by_choice Numbered t (ignored n) v (h, k) g
 
 protection_numbered : (k : Kind) (f : Found) → Numbered (protection_verdict k f)

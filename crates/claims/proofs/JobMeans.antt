@@ -6,7 +6,7 @@ use Prim.Native.Nat.{ℕ}
 use lib.ListN.{length, take, drop}
 use lib.Seq.{take-append_seam, take-length}
 use borrow.Author.Tests.{eq-eqb}
-use Rattle.lists.specs.Choice.{if◌then◌else◌}
+use Rattle.lists.specs.Choice.{if◌then◌otherwise◌}
 use Rattle.rules.specs.declared.Kept.{Kept}
 use Rattle.rules.specs.declared.Meter.{Meter}
 use Rattle.rules.specs.declared.Bill.{Bill}
@@ -73,7 +73,7 @@ module _ (part s : ℕ) (job payload buffer : List ℕ) (served : (translate_of 
     room-is = subst (λ (t : List ℕ). Roomy m t) tape-is roomy
 
     replay_unrefused : (replay_refusal part (length l) kept m w).number ≡ 0
-    unfolding replay_refusal records_refusal tape_of ◌or_else◌ if◌then◌else◌
+    unfolding replay_refusal records_refusal tape_of ◌or_else◌ if◌then◌otherwise◌
     replay_unrefused =
         rw (known, eq-eqb (length l) (part_of part).size long, ready.formed, encode-whole rs ok, encode_unfaulted rs ok, room-is.roomy)
 

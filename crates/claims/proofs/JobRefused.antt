@@ -10,7 +10,7 @@ use native.Mathlib.Nat.{eq-or-lt_of_le}
 use borrow.Author.Tests.{eqb-true, eqb-false, ne_eqb, le-ltb, lt-ltb, ltb-true, ltb-false}
 use lib.Dec.{eqb}
 use lib.ListN.{length}
-use Rattle.lists.specs.Choice.{if◌then◌else◌, ◌=?◌, ◌<?◌}
+use Rattle.lists.specs.Choice.{if◌then◌otherwise◌, ◌=?◌, ◌<?◌}
 use Rattle.rules.specs.declared.Refusal.{Refusal}
 use Rattle.rules.specs.Part.{Part}
 use Rattle.rules.specs.Parts.{is_part, part_of}
@@ -44,11 +44,11 @@ module _ (p : Part) (s pl : ℕ) (job : List ℕ) where
   left a n = steps_refusal p (setting_at job s a) pl job a n
 
   next_passes : (a n : ℕ) → f a ≡ 0 → left a (suc n) ≡ left (suc a) n
-  unfolding steps_refusal setting_at ◌or_else◌ if◌then◌else◌
+  unfolding steps_refusal setting_at ◌or_else◌ if◌then◌otherwise◌
   next_passes a n e = rw e
 
   next_refuses : (a n : ℕ) → (f a ≡ 0 → ⊥) → left a (suc n) ≡ refusal_at (f a) a
-  unfolding steps_refusal ◌or_else◌ if◌then◌else◌
+  unfolding steps_refusal ◌or_else◌ if◌then◌otherwise◌
   next_refuses a n h = rw (ne_eqb (f a) 0 h) (refused_here p (setting_at job s a) pl a (step_at job a) h)
 
   refused_first : (a m b n i : ℕ) → b ≡ a + m → (n ≡ 0 → ⊥) → left a m ≡ refusal_at n i → First f a b n i
@@ -112,7 +112,7 @@ module _ (part s : ℕ) (job : List ℕ) (pl : ℕ) where
   steps = steps_refusal (part_of part) (setting_at job s 0) pl job 0 (step_count job)
 
   the_steps : is_part part ≡ true → unfit job pl ≡ false → s ≤ (part_of part).setting_limit → job_refusal part s job pl ≡ steps
-  unfolding job_refusal setting_at if◌then◌else◌
+  unfolding job_refusal setting_at if◌then◌otherwise◌
   the_steps known fits small = rw (known, fits, le-ltb (part_of part).setting_limit s small)
 
   abbrev Holds : Refusal → Type 0
@@ -120,12 +120,12 @@ module _ (part s : ℕ) (job : List ℕ) (pl : ℕ) where
 
   -- what is refused is refused for a reason
   refused_holds : ((job_refusal part s job pl).number ≡ 0 → ⊥) → Holds (job_refusal part s job pl)
-  unfolding job_refusal setting_at if◌then◌else◌
+  unfolding job_refusal setting_at if◌then◌otherwise◌
   refused_holds h = go (is_part part) (unfit job pl) ((part_of part).setting_limit <? s) refl refl refl h
     where
       go : (k u o : Bool) → is_part part ≡ k → unfit job pl ≡ u → ((part_of part).setting_limit <? s) ≡ o
-          → ((if not k then refusal 1 else if u then refusal 20 else if o then refusal 21 else steps).number ≡ 0 → ⊥)
-          → Holds (if not k then refusal 1 else if u then refusal 20 else if o then refusal 21 else steps)
+          → ((if not k then refusal 1 otherwise if u then refusal 20 otherwise if o then refusal 21 otherwise steps).number ≡ 0 → ⊥)
+          → Holds (if not k then refusal 1 otherwise if u then refusal 20 otherwise if o then refusal 21 otherwise steps)
       go false u o e f g h = for_1 e
       go true true o e f g h = for_20 e ((unfit-is job pl).0 f)
       go true false true e f g h = for_21 e ((fails_is (unfit job pl) _ (unfit-is job pl)).0 f) (ltb-true (part_of part).setting_limit s g)
@@ -138,7 +138,7 @@ module _ (part s : ℕ) (job : List ℕ) (pl : ℕ) where
 
   -- a reason refuses
   holds_refused : (n i : ℕ) → JobTurnedAway part s job pl n i → (job_refusal part s job pl ≡ refusal_at n i) × (n ≡ 0 → ⊥)
-  unfolding job_refusal if◌then◌else◌
+  unfolding job_refusal if◌then◌otherwise◌
   holds_refused n i (for_1 e) = (rw e refl, λ z. omega arith)
   holds_refused n i (for_20 e u) = (rw (e, (unfit-is job pl).1 u) refl, λ z. omega arith)
   holds_refused n i (for_21 e u h) = (rw (e, (fails_is (unfit job pl) _ (unfit-is job pl)).1 u, lt-ltb (part_of part).setting_limit s h) refl, λ z. omega arith)

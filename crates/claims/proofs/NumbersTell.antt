@@ -8,7 +8,7 @@ use native.Mathlib.Omega.{arith}
 use lib.Dec.{eqb}
 use lib.ListN.{length}
 use borrow.Author.Tests.{eq-eqb, eqb-false, le-leb}
-use Rattle.lists.specs.Choice.{if◌then◌else◌, ◌=?◌, ◌≤?◌}
+use Rattle.lists.specs.Choice.{if◌then◌otherwise◌, ◌=?◌, ◌≤?◌}
 use Rattle.lists.proofs.Choice.{either_true, either_false, by_choice}
 use Rattle.lists.specs.declared.Found.{Found}
 use Rattle.lists.specs.declared.Found.TheVariants.{At, Nothing}
@@ -69,8 +69,8 @@ earlier [] ks n z h = ⊎_elim (λ e. absurd (z e)) (λ e. absurd e) h
 earlier (k ∷ row) ks n z h = ⊎_elim inl (λ e. inr (earlier row ks n z e)) h
 
 -- a check adds its own number
-check : {S : Type 0} (number : S → ℕ) (t : Bool) (a w : S) (ks : List ℕ) → InRow ks (number w) → InRow (number a ∷ ks) (number (if t then a else w))
-unfolding InRow if◌then◌else◌
+check : {S : Type 0} (number : S → ℕ) (t : Bool) (a w : S) (ks : List ℕ) → InRow ks (number w) → InRow (number a ∷ ks) (number (if t then a otherwise w))
+unfolding InRow if◌then◌otherwise◌
 check number true a w ks h = inl refl
 check number false a w ks h = inr h
 
@@ -82,10 +82,10 @@ unfolding InRow
 no_refusal = inl refl
 
 else_row : (row ks : List ℕ) (z y : Refusal) → InRow (row ++ (0 ∷ [])) z.number → InRow ks y.number → InRow (row ++ ks) (z or_else y).number
-unfolding ◌or_else◌ if◌then◌else◌
+unfolding ◌or_else◌ if◌then◌otherwise◌
 else_row row ks z y h k = go (eqb z.number 0) refl
   where
-    go : (t : Bool) → eqb z.number 0 ≡ t → InRow (row ++ ks) (if t then y else z).number
+    go : (t : Bool) → eqb z.number 0 ≡ t → InRow (row ++ ks) (if t then y otherwise z).number
     go true e = later row ks y.number k
     go false e = earlier row ks z.number (eqb-false z.number 0 e) h
 
@@ -93,11 +93,11 @@ else_row row ks z y h k = go (eqb z.number 0) refl
 
 tells : {S : Type 0} (served : S → Bool) (number : S → ℕ) (Fine : ℕ → Type 0) (row : List ℕ) (z : Refusal) (a b : S)
     → served a ≡ true → Fine (number a) → served b ≡ false → number b ≡ z.number → InRow (row ++ (0 ∷ [])) z.number
-    → Tells Fine (row ++ []) (served (if accepted z then a else b)) (number (if accepted z then a else b))
-unfolding if◌then◌else◌
+    → Tells Fine (row ++ []) (served (if accepted z then a otherwise b)) (number (if accepted z then a otherwise b))
+unfolding if◌then◌otherwise◌
 tells served number Fine row z a b fa fine fb same h = go (eqb z.number 0) refl
   where
-    go : (t : Bool) → eqb z.number 0 ≡ t → Tells Fine (row ++ []) (served (if t then a else b)) (number (if t then a else b))
+    go : (t : Bool) → eqb z.number 0 ≡ t → Tells Fine (row ++ []) (served (if t then a otherwise b)) (number (if t then a otherwise b))
     go true e = record { of_served = λ q. fine; of_refused = λ q. never (sym fa ∙ q) }
     go false e =
         record {

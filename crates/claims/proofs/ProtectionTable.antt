@@ -5,7 +5,7 @@ use mathlib.Core.Logic.{◌↔◌}
 use Prim.Native.Nat.{ℕ, zero, suc, ◌-◌, ◌%◌, ◌≤◌, ◌<◌}
 use native.Mathlib.Omega.{arith}
 use borrow.Author.Tests.{leb-true, le-leb, ltb-true, lt-ltb}
-use Rattle.lists.specs.Choice.{if◌then◌else◌, ◌<?◌, ◌≤?◌}
+use Rattle.lists.specs.Choice.{if◌then◌otherwise◌, ◌<?◌, ◌≤?◌}
 use Rattle.lists.proofs.Choice.{both_true}
 use Rattle.rules.specs.Fm25q16.{fm_sec0, fm_sec1, fm_area, fm_lo, fm_hi, fm25q16}
 use Rattle.rules.specs.Parts.{part_of}
@@ -14,7 +14,7 @@ use Rattle.claims.specs.ProtectionTable.{Area, bytes, BP, TB, SEC, ◌∣◌∣�
 
 -- each line's two columns are the areas that the chip's description has
 area_is : (s b : ℕ) (sec0 sec1 : Area) → s % 8 ≡ b → b ∣ sec0 ∣ sec1 → (SEC s ≡ 0 → fm_area s ≡ bytes sec0) × (SEC s ≡ 1 → fm_area s ≡ bytes sec1)
-unfolding fm_area fm_sec0 fm_sec1 if◌then◌else◌
+unfolding fm_area fm_sec0 fm_sec1 if◌then◌otherwise◌
 area_is s b sec0 sec1 h line_0 = (λ e. rw (e, h), λ e. rw (e, h))
 area_is s b sec0 sec1 h line_1 = (λ e. rw (e, h), λ e. rw (e, h))
 area_is s b sec0 sec1 h line_2 = (λ e. rw (e, h), λ e. rw (e, h))
@@ -32,11 +32,11 @@ between lo hi x = (
 
 module _ (s : ℕ) (a : Area) (e : fm_area s ≡ bytes a) (x : ℕ) where
   top : TB s ≡ 0 → is_protected (part_of 1) s x ≡ true ↔ AtTop a x
-  unfolding is_protected part_of fm25q16 fm_lo fm_hi if◌then◌else◌
+  unfolding is_protected part_of fm25q16 fm_lo fm_hi if◌then◌otherwise◌
   top t = rw (t, e) (between (2097152 - bytes a) 2097152 x)
 
   bottom : TB s ≡ 1 → is_protected (part_of 1) s x ≡ true ↔ AtBottom a x
-  unfolding is_protected part_of fm25q16 fm_lo fm_hi if◌then◌else◌
+  unfolding is_protected part_of fm25q16 fm_lo fm_hi if◌then◌otherwise◌
   bottom t = let h = between 0 (bytes a) x in rw (t, e) (λ q. (h.0 q).1, λ q. h.1 (omega arith, q))
 
 pub protected_as_in_the_table : (s : ℕ) (sec0 sec1 : Area) → BP s ∣ sec0 ∣ sec1 → AsInTable (part_of 1) s sec0 sec1

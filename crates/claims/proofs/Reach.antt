@@ -6,7 +6,7 @@ use Prim.Native.Nat.{ℕ, ◌+◌, ◌-◌, ◌≤◌, ◌<◌}
 use native.Mathlib.Omega.{arith}
 use native.Mathlib.Nat.{mod-lt}
 use lib.ListN.{length, get_or}
-use Rattle.lists.specs.Choice.{if◌then◌else◌}
+use Rattle.lists.specs.Choice.{if◌then◌otherwise◌}
 use Rattle.lists.specs.Places.{patched}
 use Rattle.lists.proofs.Patched.{by_place, patched_at, patched-length}
 use Rattle.rules.specs.declared.Regs.{Regs}
@@ -30,10 +30,10 @@ In a n y = (a ≤ y) × (y < a + n)
 -- a place of a patched list, whatever is said of it: it lies in the patch, or it holds what it held
 pub patched_either : (P : ℕ → Type 0) (l : List ℕ) (a n : ℕ) (f : ℕ → ℕ) (y : ℕ) → a ≤ length l
     → (In a n y → P (f (y - a))) → ((In a n y → ⊥) → P (get_or l y 0)) → P (get_or (patched l a n f) y 0)
-unfolding if◌then◌else◌
+unfolding if◌then◌otherwise◌
 patched_either P l a n f y h inside outside =
     rw (patched_at l a n f y h)
-    (by_place (λ (t : Bool). P (if t then f (y - a) else get_or l y 0)) a n y (λ p q. inside (p, q)) (λ p. outside (λ w. omega arith)) (λ p. outside (λ w. omega arith)))
+    (by_place (λ (t : Bool). P (if t then f (y - a) otherwise get_or l y 0)) a n y (λ p q. inside (p, q)) (λ p. outside (λ w. omega arith)) (λ p. outside (λ w. omega arith)))
 
 pub patched-outside : (l : List ℕ) (a n : ℕ) (f : ℕ → ℕ) (y : ℕ) → a ≤ length l → (In a n y → ⊥) → get_or (patched l a n f) y 0 ≡ get_or l y 0
 patched-outside l a n f y h out = patched_either (λ v. v ≡ get_or l y 0) l a n f y h (λ w. absurd (out w)) (λ w. refl)

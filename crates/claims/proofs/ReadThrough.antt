@@ -7,7 +7,7 @@ use native.Mathlib.Omega.{arith}
 use native.Mathlib.Numerals.{add-one}
 use lib.Dec.{leb}
 use borrow.Author.Tests.{le-leb, leb-true, leb-false}
-use Rattle.lists.specs.Choice.{if◌then◌else◌}
+use Rattle.lists.specs.Choice.{if◌then◌otherwise◌}
 use Rattle.rules.specs.declared.AtPlace.{AtPlace}
 use Rattle.rules.specs.declared.AtPlace.TheVariants.{End}
 use Rattle.rules.specs.Tape.{rec_at, records, whole, good_record}
@@ -68,7 +68,7 @@ module _ (r : Reader) (start : r.place ≡ 0) (clean : Clean r.bytes.now) where
 
   -- a read at the place after the last record gives the end
   at_end : (k : ℕ) → (after_reads k r).place ≡ records r.bytes.now → answer (after_reads k r) ≡ End
-  unfolding read_at if◌then◌else◌
+  unfolding read_at if◌then◌otherwise◌
   at_end k e =
       let n = records r.bytes.now in
       (λ i. read_at (same_bytes k i).now (e i)) ∙ rw (clean.whole_records, le-leb n n (omega arith))

@@ -6,7 +6,7 @@ use mathlib.Core.List.{List, [], ◌∷◌}
 use Prim.Native.Nat.{ℕ, ◌≤◌, ◌<◌}
 use native.Mathlib.Omega.{arith}
 use lib.ListN.{length}
-use Rattle.lists.specs.Choice.{if◌then◌else◌}
+use Rattle.lists.specs.Choice.{if◌then◌otherwise◌}
 use Rattle.rules.specs.declared.Kept.{Kept}
 use Rattle.rules.specs.declared.Meter.{Meter}
 use Rattle.rules.specs.declared.Regs.{Regs}
@@ -51,23 +51,23 @@ pub record RegsSaid (p : Part) (r : Regs) (ws : List Step) (t : Regs) : Type 0 w
   pub busy : t.busy ≡ r.busy
   pub awake : t.awake ≡ r.awake
   pub setting : t.setting ≡ last_setting r.setting ws
-  pub wel : t.wel ≡ (if is_empty ws then r.wel else false)
-  pub srp0 : t.srp0 ≡ (if has_guard ws then cleared p r.srp0 else r.srp0)
-  pub srp1 : t.srp1 ≡ (if has_guard ws then cleared p r.srp1 else r.srp1)
-  pub qe : t.qe ≡ (if has_guard ws then cleared p r.qe else r.qe)
+  pub wel : t.wel ≡ (if is_empty ws then r.wel otherwise false)
+  pub srp0 : t.srp0 ≡ (if has_guard ws then cleared p r.srp0 otherwise r.srp0)
+  pub srp1 : t.srp1 ≡ (if has_guard ws then cleared p r.srp1 otherwise r.srp1)
+  pub qe : t.qe ≡ (if has_guard ws then cleared p r.qe otherwise r.qe)
 
 -- 0 either way
-off : (t : Bool) → (if t then false else false) ≡ false
-unfolding if◌then◌else◌
+off : (t : Bool) → (if t then false otherwise false) ≡ false
+unfolding if◌then◌otherwise◌
 off true = refl
 off false = refl
 
 -- a bit that a guard cleared, or that it leaves, later guards leave
-cleared_once : (p : Part) (t b : Bool) → (if t then cleared p (cleared p b) else cleared p b) ≡ cleared p b
-unfolding if◌then◌else◌
+cleared_once : (p : Part) (t b : Bool) → (if t then cleared p (cleared p b) otherwise cleared p b) ≡ cleared p b
+unfolding if◌then◌otherwise◌
 cleared_once p t b = go t p.guard_clears
   where
-    go : (t c : Bool) → (if t then (if c then false else if c then false else b) else (if c then false else b)) ≡ (if c then false else b)
+    go : (t c : Bool) → (if t then (if c then false otherwise if c then false otherwise b) otherwise (if c then false otherwise b)) ≡ (if c then false otherwise b)
     go true true = refl
     go true false = refl
     go false c = refl
@@ -75,7 +75,7 @@ cleared_once p t b = go t p.guard_clears
 -- a step that is no guard, and then those that are left
 unguarded : (p : Part) (r t : Regs) (w : Step) (ws : List Step) → is_guard w ≡ false → setting_meant r.setting w ≡ r.setting
     → RegsSaid p (with_wel r false) ws t → RegsSaid p r (w ∷ ws) t
-unfolding last_setting has_guard if◌then◌else◌
+unfolding last_setting has_guard if◌then◌otherwise◌
 unguarded p r t w ws e f h =
     record {
       busy = h.busy;
@@ -88,7 +88,7 @@ unguarded p r t w ws e f h =
     }
 
 pub regs_said : (p : Part) (r : Regs) (ws : List Step) → RegsSaid p r ws (all_regs_meant p r ws)
-unfolding all_regs_meant last_setting has_guard if◌then◌else◌
+unfolding all_regs_meant last_setting has_guard if◌then◌otherwise◌
 regs_said p r [] = record { busy = refl; awake = refl; setting = refl; wel = refl; srp0 = refl; srp1 = refl; qe = refl }
 regs_said p r (EraseAt u a ∷ ws) = unguarded p r _ (EraseAt u a) ws refl refl (regs_said p (with_wel r false) ws)
 regs_said p r (Lay s ∷ ws) = unguarded p r _ (Lay s) ws refl refl (regs_said p (with_wel r false) ws)

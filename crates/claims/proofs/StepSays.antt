@@ -8,7 +8,7 @@ use native.Mathlib.Omega.{arith}
 use lib.Dec.{eqb}
 use lib.ListN.{get_or}
 use borrow.Author.Tests.{eqb-true, eq-eqb, eqb-false, leb-true, le-leb, not-false}
-use Rattle.lists.specs.Choice.{if◌then◌else◌, ◌≤?◌}
+use Rattle.lists.specs.Choice.{if◌then◌otherwise◌, ◌≤?◌}
 use Rattle.lists.proofs.Choice.{both_true, took_other}
 use Rattle.lists.proofs.Search.{every_at, at_every}
 use Rattle.rules.specs.declared.EraseUnit.{EraseUnit}
@@ -25,17 +25,17 @@ zeros-is job a n =
     (λ e y h k. eqb-true (get_or job y 0) 0 (every_at (is_zero job) a n e y h k), λ z. at_every (is_zero job) a n (λ y h k. eq-eqb (get_or job y 0) 0 (z y h k)))
 
 unit_of : (u : EraseUnit) → (unit_byte u ≤ 3) × (unit_by (unit_byte u) ≡ u)
-unfolding unit_by if◌then◌else◌
+unfolding unit_by if◌then◌otherwise◌
 unit_of Sector = (omega arith, refl)
 unit_of Block32 = (omega arith, refl)
 unit_of Block64 = (omega arith, refl)
 unit_of Chip = (omega arith, refl)
 
 byte_of : (n : ℕ) → n ≤ 3 → unit_byte (unit_by n) ≡ n
-unfolding unit_by if◌then◌else◌
+unfolding unit_by if◌then◌otherwise◌
 byte_of n h = go (eqb n 0) (eqb n 1) (eqb n 2) refl refl refl
   where
-    go : (s t u : Bool) → eqb n 0 ≡ s → eqb n 1 ≡ t → eqb n 2 ≡ u → unit_byte (if s then Sector else if t then Block32 else if u then Block64 else Chip) ≡ n
+    go : (s t u : Bool) → eqb n 0 ≡ s → eqb n 1 ≡ t → eqb n 2 ≡ u → unit_byte (if s then Sector otherwise if t then Block32 otherwise if u then Block64 otherwise Chip) ≡ n
     go true t u e f g = sym (eqb-true n 0 e)
     go false true u e f g = sym (eqb-true n 1 f)
     go false false true e f g = sym (eqb-true n 2 g)
@@ -43,15 +43,15 @@ byte_of n h = go (eqb n 0) (eqb n 1) (eqb n 2) refl refl refl
 
 module _ (job : List ℕ) (a : ℕ) where
   pub said_is_decoded : (w : Step) → Says job a w → decoded_at job a ≡ Good w
-  unfolding decoded_at decoded_erase decoded_lay decoded_guard if◌then◌else◌
+  unfolding decoded_at decoded_erase decoded_lay decoded_guard if◌then◌otherwise◌
   said_is_decoded w (says_erase u k c z rest) =
       rw ((zeros-is job (a + 2) 2).1 z, k, c, le-leb (unit_byte u) 3 (unit_of u).0, (zeros-is job (a + 8) 8).1 rest, (unit_of u).1) refl
   said_is_decoded w (says_lay k c z) = rw ((zeros-is job (a + 2) 2).1 z, k, c) refl
   said_is_decoded w (says_guard k c z rest) =
       rw ((zeros-is job (a + 2) 2).1 z, k, le-leb (get_or job (a + 1) 0) 31 c, (zeros-is job (a + 4) 12).1 rest) refl
 
-  if-good : (t : Bool) (v w : Step) → (if t then Good v else Bad) ≡ Good w → (t ≡ true) × (v ≡ w)
-  unfolding if◌then◌else◌
+  if-good : (t : Bool) (v w : Step) → (if t then Good v otherwise Bad) ≡ Good w → (t ≡ true) × (v ≡ w)
+  unfolding if◌then◌otherwise◌
   if-good true v w e = (refl, cc)
   if-good false v w e = let z : ◌≡◌ {A = ℕ} 0 1 = cc in absurd (omega arith)
 
@@ -80,14 +80,14 @@ module _ (job : List ℕ) (a : ℕ) where
   bad_good w e = let z : ◌≡◌ {A = ℕ} 0 1 = cc in absurd (omega arith)
 
   pub decoded_is_said : (w : Step) → decoded_at job a ≡ Good w → Says job a w
-  unfolding decoded_at if◌then◌else◌
+  unfolding decoded_at if◌then◌otherwise◌
   decoded_is_said w e =
       let h = took_other (λ (d : Decoded). d ≡ Good w) (not (zeros job (a + 2) 2)) Bad _ (λ q. bad_good w q) e in
       let k = get_or job a 0 in
       go ((zeros-is job (a + 2) 2).0 (not-false _ h.0)) (eqb k 1) (eqb k 2) (eqb k 3) refl refl refl h.1
     where
       go : Zeros job (a + 2) 2 → (s t u : Bool) → eqb (get_or job a 0) 1 ≡ s → eqb (get_or job a 0) 2 ≡ t → eqb (get_or job a 0) 3 ≡ u
-          → (if s then decoded_erase job a else if t then decoded_lay job a else if u then decoded_guard job a else Bad) ≡ Good w → Says job a w
+          → (if s then decoded_erase job a otherwise if t then decoded_lay job a otherwise if u then decoded_guard job a otherwise Bad) ≡ Good w → Says job a w
       go z true t u e f g q = erase_said w (eqb-true _ _ e) z q
       go z false true u e f g q = lay_said w (eqb-true _ _ f) z q
       go z false false true e f g q = guard_said w (eqb-true _ _ g) z q

@@ -7,7 +7,7 @@ use mathlib.Core.Logic.{◌↔◌}
 use Prim.Native.Nat.{ℕ, ◌+◌, ◌*◌, ◌≤◌, ◌<◌}
 use native.Mathlib.Omega.{arith}
 use borrow.Author.Tests.{not-true}
-use Rattle.lists.specs.Choice.{if◌then◌else◌, ◌=?◌, ◌<?◌, ◌≤?◌}
+use Rattle.lists.specs.Choice.{if◌then◌otherwise◌, ◌=?◌, ◌<?◌, ◌≤?◌}
 use Rattle.lists.specs.declared.Found.{Found}
 use Rattle.lists.specs.declared.Found.TheVariants.{At, Nothing}
 use Rattle.lists.proofs.Choice.{if-true, if-false, by_choice}
@@ -86,7 +86,7 @@ module _ (p : Part) (setting payload_length : ℕ) (job : List ℕ) (i : ℕ) wh
   Earns n = Wrong p setting payload_length job i n
 
   numbered : (d : Decoded) → step_at job i ≡ d → (number d ≡ 0 → ⊥) → Earns (number d)
-  unfolding step_refusal if◌then◌else◌
+  unfolding step_refusal if◌then◌otherwise◌
   numbered Bad e z = for_22 (λ w h. let q = sym e ∙ said_is_decoded job (16 * i) w h in let c : ◌≡◌ {A = ℕ} 0 1 = cc in omega arith)
   numbered (Good w) e z = go (outside p w) (beyond payload_length w) (first_shielded p setting w) refl refl refl z
     where
@@ -94,8 +94,8 @@ module _ (p : Part) (setting payload_length : ℕ) (job : List ℕ) (i : ℕ) wh
       says = decoded_is_said job (16 * i) w e
 
       go : (o b : Bool) (f : Found) → outside p w ≡ o → beyond payload_length w ≡ b → first_shielded p setting w ≡ f
-          → ((if o then refusal_at 23 i else if b then refusal_at 24 i else shielded i f).number ≡ 0 → ⊥)
-          → Earns (if o then refusal_at 23 i else if b then refusal_at 24 i else shielded i f).number
+          → ((if o then refusal_at 23 i otherwise if b then refusal_at 24 i otherwise shielded i f).number ≡ 0 → ⊥)
+          → Earns (if o then refusal_at 23 i otherwise if b then refusal_at 24 i otherwise shielded i f).number
       go true b f k g h q = for_23 w says ((outside-is p w).0 k)
       go false true f k g h q = for_24 w says ((fails_is (outside p w) _ (outside-is p w)).0 k) ((beyond-is payload_length w).0 g)
       go false false (At y) k g h q =

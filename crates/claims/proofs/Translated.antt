@@ -5,7 +5,7 @@ use mathlib.Core.List.{List, ◌++◌}
 use Prim.Native.Nat.{ℕ, ◌≤◌, ◌<◌}
 use lib.ListN.{length, drop}
 use borrow.Author.Tests.{eqb-true, eqb-false, eq-eqb, ne_eqb, ltb-true, ltb-false}
-use Rattle.lists.specs.Choice.{if◌then◌else◌, ◌<?◌}
+use Rattle.lists.specs.Choice.{if◌then◌otherwise◌, ◌<?◌}
 use Rattle.rules.specs.declared.Refusal.{Refusal}
 use Rattle.rules.specs.declared.Translated.TheVariants as T
 use Rattle.rules.specs.declared.Quoted.TheVariants as Q
@@ -47,9 +47,9 @@ module _ (part s : ℕ) (job payload buffer : List ℕ) where
 
 module _ (part s : ℕ) (job : List ℕ) (payload_length : ℕ) where
   pub quote_billed : (job_refusal part s job payload_length).number ≡ 0 → quote_of part s job payload_length ≡ quote_told (Q.Billed (bill_of (steps_of job)))
-  unfolding quote_of if◌then◌else◌
+  unfolding quote_of if◌then◌otherwise◌
   quote_billed e = rw (eq-eqb _ 0 e)
 
   pub quote_refused : ((job_refusal part s job payload_length).number ≡ 0 → ⊥) → quote_of part s job payload_length ≡ quote_told (Q.Refused (job_refusal part s job payload_length))
-  unfolding quote_of if◌then◌else◌
+  unfolding quote_of if◌then◌otherwise◌
   quote_refused h = rw (ne_eqb _ 0 h)

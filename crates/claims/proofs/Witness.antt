@@ -6,7 +6,7 @@ use mathlib.Core.List.{List, [], ◌∷◌, map}
 use Prim.Native.Nat.{ℕ, ◌/◌}
 use native.Mathlib.Omega.{arith}
 use lib.ListN.{length, get_or, length-replicate}
-use Rattle.lists.specs.Choice.{if◌then◌else◌}
+use Rattle.lists.specs.Choice.{if◌then◌otherwise◌}
 use Rattle.lists.specs.Places.{tabulate_from, tabulate, patched, first_in, every_in}
 use Rattle.rules.specs.declared.EraseUnit.TheVariants.{Sector}
 use Rattle.rules.specs.declared.Step.{Step}
@@ -38,11 +38,11 @@ unfolding blank
 blank-long n = length-replicate {A = ℕ} n 0
 
 pub steps_are : steps_of job ≡ EraseAt Sector 0x001000 ∷ Lay (record { address = 0x0010FE; length = 4; offset = 0 }) ∷ Guard 17 ∷ []
-unfolding job steps_from decoded_at decoded_erase decoded_lay decoded_guard unit_by every_in if◌then◌else◌
+unfolding job steps_from decoded_at decoded_erase decoded_lay decoded_guard unit_by every_in if◌then◌otherwise◌
 steps_are = refl
 
 unrefused : (job_refusal 1 0 job (length payload)).number ≡ 0
-unfolding job job_refusal is_part unfit steps_refusal ◌or_else◌ step_refusal first_protected first_in is_protected part_of fm25q16 fm_erases fm_lo fm_hi fm_area fm_sec0 fm_sec1 decoded_at decoded_erase decoded_lay decoded_guard unit_by every_in if◌then◌else◌
+unfolding job job_refusal is_part unfit steps_refusal ◌or_else◌ step_refusal first_protected first_in is_protected part_of fm25q16 fm_erases fm_lo fm_hi fm_area fm_sec0 fm_sec1 decoded_at decoded_erase decoded_lay decoded_guard unit_by every_in if◌then◌otherwise◌
 unrefused = refl
 
 bill-is : bill_of (steps_of job) ≡ record { programs = 2; erases = 1; register_writes = 1; length = 3168 }
@@ -89,7 +89,7 @@ meter-after = ap (λ (v : ReplaySeen). v.answer.meter) job_means.played ∙ ap (
 
 -- the registers: setting 17, which is 44 hex in the word, and all else 0
 pub regs-after : played.answer.regs ≡ record { status = 0x0044; awake = 1 }
-unfolding all_regs_meant kept_of regs_of status_of part_of fm25q16 if◌then◌else◌
+unfolding all_regs_meant kept_of regs_of status_of part_of fm25q16 if◌then◌otherwise◌
 regs-after = ap (λ (v : ReplaySeen). v.answer.regs) job_means.played ∙ ap (λ (ws : List Step). kept_of (all_regs_meant (part_of 1) (regs_of kept) ws)) steps_are
 
 -- the array, which held 00, at these places: the sector from 001000 on is FF, but for the four bytes laid; its neighbours stay

@@ -5,7 +5,7 @@ use Prim.Native.Nat.{ℕ, ◌+◌, ◌≤◌, ◌<◌, min, max}
 use native.Mathlib.Omega.{arith}
 use lib.Dec.{ltb}
 use borrow.Author.Tests.{ltb-false}
-use Rattle.lists.specs.Choice.{if◌then◌else◌}
+use Rattle.lists.specs.Choice.{if◌then◌otherwise◌}
 use Rattle.lists.specs.declared.Found.TheVariants.{At, Nothing}
 use Rattle.lists.proofs.Search.{overlap, overlap_no}
 use Rattle.rules.specs.Units.{page, page_start}
@@ -23,10 +23,10 @@ pub bare_part : (p : Part) (s a n b m : ℕ) → a ≤ b → b + m ≤ a + n →
 bare_part p s a n b m h k e = bare_none p s b m (λ x q r. none_protected p s a n e x (omega arith) (omega arith))
 
 apart : (lo hi a n : ℕ) → overlap lo hi a n ≡ Nothing → min (a + n) hi ≤ max a lo
-unfolding if◌then◌else◌
+unfolding if◌then◌otherwise◌
 apart lo hi a n e = go (ltb (max a lo) (min (a + n) hi)) refl e
   where
-    go : (t : Bool) → ltb (max a lo) (min (a + n) hi) ≡ t → (if t then At (max a lo) else Nothing) ≡ Nothing → min (a + n) hi ≤ max a lo
+    go : (t : Bool) → ltb (max a lo) (min (a + n) hi) ≡ t → (if t then At (max a lo) otherwise Nothing) ≡ Nothing → min (a + n) hi ≤ max a lo
     go true f g = let z : ◌≡◌ {A = ℕ} 0 1 = cc in absurd (omega arith)
     go false f g = ltb-false _ _ f
 

@@ -6,21 +6,21 @@ use Prim.Native.Nat.{ℕ, ◌+◌, ◌-◌, ◌≤◌, ◌<◌}
 use native.Mathlib.Omega.{arith}
 use lib.ListN.{length, get_or}
 use lib.Seq.{ext_get_or}
-use Rattle.lists.specs.Choice.{if◌then◌else◌}
+use Rattle.lists.specs.Choice.{if◌then◌otherwise◌}
 use Rattle.lists.specs.Places.{patched}
 use Rattle.lists.proofs.Choice.{if-false}
 use Rattle.lists.proofs.Patched.{within, by_place, within_below, within_above, patched-length, patched_at, patched_inside, patched_below, patched_above}
 
 -- a patch that puts back the old outside of a narrower stretch is a patch of that stretch
 pub patched_narrow : (l : List ℕ) (p m a n : ℕ) (f g : ℕ → ℕ) → p ≤ a → a + n ≤ p + m → p + m ≤ length l
-    → ((x : ℕ) → p ≤ x → x < p + m → f (x - p) ≡ (if within a n x then g (x - a) else get_or l x 0)) → patched l p m f ≡ patched l a n g
+    → ((x : ℕ) → p ≤ x → x < p + m → f (x - p) ≡ (if within a n x then g (x - a) otherwise get_or l x 0)) → patched l p m f ≡ patched l a n g
 patched_narrow l p m a n f g h k fits same =
     ext_get_or 0 (patched l p m f) (patched l a n g) (patched-length l p m f fits ∙ sym (patched-length l a n g (omega arith)))
     (λ x q. place x ∙ sym (patched_at l a n g x (omega arith)))
   where
-    place : (x : ℕ) → get_or (patched l p m f) x 0 ≡ (if within a n x then g (x - a) else get_or l x 0)
+    place : (x : ℕ) → get_or (patched l p m f) x 0 ≡ (if within a n x then g (x - a) otherwise get_or l x 0)
     place x =
-        by_place (λ (t : Bool). get_or (patched l p m f) x 0 ≡ (if within a n x then g (x - a) else get_or l x 0)) p m x
+        by_place (λ (t : Bool). get_or (patched l p m f) x 0 ≡ (if within a n x then g (x - a) otherwise get_or l x 0)) p m x
         (λ q r. patched_inside l p m f x (omega arith) q r ∙ same x q r)
         (λ q. patched_below l p m f x (omega arith) q ∙ sym (if-false (within a n x) _ _ (within_below a n x (omega arith))))
         (λ q. patched_above l p m f x (omega arith) q ∙ sym (if-false (within a n x) _ _ (within_above a n x (omega arith))))

@@ -6,7 +6,7 @@ use Prim.Native.Nat.{ℕ, ◌<◌}
 use native.Mathlib.Omega.{arith}
 use lib.ListN.{length, get_or}
 use borrow.Author.Tests.{ne_eqb}
-use Rattle.lists.specs.Choice.{if◌then◌else◌}
+use Rattle.lists.specs.Choice.{if◌then◌otherwise◌}
 use Rattle.rules.specs.declared.Write.{Write}
 use Rattle.rules.specs.declared.Write.TheVariants.{Program, Erase, WriteStatus}
 use Rattle.rules.specs.declared.Kind.{Kind}
@@ -56,7 +56,7 @@ pub settled_plain : (r : Regs) → Calm r → with_wel (with_busy r false) false
 settled_plain r c = ap (λ (b : Bool). with_wel (with_busy r b) false) (sym c.idle)
 
 finish_settles : (p : Part) (r : Regs) (b : List ℕ) (w : Write) → finished (regs_written p (with_wel r true) b w) ≡ settled p r b w
-unfolding finished if◌then◌else◌
+unfolding finished if◌then◌otherwise◌
 finish_settles p r b Program = refl
 finish_settles p r b (Erase u) = refl
 finish_settles p r b WriteStatus = refl
@@ -64,7 +64,7 @@ finish_settles p r b WriteStatus = refl
 module _ (p : Part) (law : Tapeable p) where
   -- a chip that is awake and idle hears what is said
   heard : (r : Regs) → Calm r → (k : Kind) (b : List ℕ) → Says p k b → verdict_of p r b 0 true ≡ of_write k (CarriedOut k) (write_verdict p r true (address_of p b) k)
-  unfolding judge_of unheard_asleep unheard_busy of_known kind_verdict if◌then◌else◌
+  unfolding judge_of unheard_asleep unheard_busy of_known kind_verdict if◌then◌otherwise◌
   heard r c k b s =
       let not_empty = s.not_empty in
       verdict_judged p r b 0 true
@@ -77,7 +77,7 @@ module _ (p : Part) (law : Tapeable p) where
   -- with WEL 1, unlocked and nothing protected: "else 0, carried out"
   write_done : (r : Regs) → Calm r → (w : Write) (b : List ℕ) → Says p (Writes w) b → Bare p r.setting (reach_start w (address_of p b)) (reach_length p w)
       → verdict_of p (with_wel r true) b 0 true ≡ CarriedOut (Writes w)
-  unfolding of_write write_verdict if◌then◌else◌
+  unfolding of_write write_verdict if◌then◌otherwise◌
   write_done r c w b s bare = heard (with_wel r true) (calm_wel r c true) (Writes w) b s ∙ rw (unlocked-out (with_wel r true) c.unlocked w, bare)
 
   -- the write does its own to the registers, the array and the meter, and the records es come after it

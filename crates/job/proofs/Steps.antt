@@ -6,7 +6,7 @@ use native.Mathlib.Nat.{sub-zero}
 use native.Mathlib.Numerals.{add-one}
 use native.Mathlib.Omega.{arith}
 use borrow.Author.Tests.{ne_eqb}
-use Rattle.lists.specs.Choice.{if◌then◌else◌}
+use Rattle.lists.specs.Choice.{if◌then◌otherwise◌}
 use Rattle.rules.specs.declared.Decoded.{Decoded}
 use Rattle.rules.specs.declared.Refusal.{Refusal}
 use Rattle.rules.specs.Part.{Part}
@@ -28,12 +28,12 @@ module _ (p : Part) (pl : ℕ) (job : List ℕ) where
   -- step i says d, its refusal is z and the setting after it t
   pub steps_go : (s i n t : ℕ) (z : Refusal) (d : Decoded) → i < n → d ≡ step_at job i → z ≡ decoded_refusal p s pl i d → z.number ≡ 0 → t ≡ setting_after s d
       → steps_refusal p s pl job i (n - i) ≡ steps_refusal p t pl job (i + 1) (n - (i + 1))
-  unfolding ◌or_else◌ if◌then◌else◌
+  unfolding ◌or_else◌ if◌then◌otherwise◌
   steps_go s i n t z d h e f k g = next s i n h ∙ rw (← e, ← f, ← g, k)
 
   pub steps_stop : (s i n : ℕ) (z : Refusal) (d : Decoded) → i < n → d ≡ step_at job i → z ≡ decoded_refusal p s pl i d → (z.number ≡ 0 → ⊥)
       → steps_refusal p s pl job i (n - i) ≡ z
-  unfolding ◌or_else◌ if◌then◌else◌
+  unfolding ◌or_else◌ if◌then◌otherwise◌
   steps_stop s i n z d h e f k = next s i n h ∙ rw (← e, ← f, ne_eqb z.number 0 k)
 
   pub steps_end : (s i n : ℕ) → n ≤ i → steps_refusal p s pl job i (n - i) ≡ refusal 0

@@ -5,7 +5,7 @@ use Prim.Native.Nat.{ℕ, ◌+◌, ◌≤◌, ◌<◌}
 use native.Mathlib.Omega.{arith}
 use lib.Dec.{eqb}
 use borrow.Author.Tests.{ltb-false, eqb-true, eqb-false, leb-true, le-leb, not-false, eq-eqb}
-use Rattle.lists.specs.Choice.{if◌then◌else◌, ◌=?◌, ◌<?◌, ◌≤?◌}
+use Rattle.lists.specs.Choice.{if◌then◌otherwise◌, ◌=?◌, ◌<?◌, ◌≤?◌}
 use Rattle.lists.proofs.Choice.{took_other, both_true}
 use Rattle.rules.specs.declared.Kept.{Kept}
 use Rattle.rules.specs.declared.Meter.{Meter}
@@ -17,15 +17,15 @@ use Rattle.rules.specs.Refusals.{refusal, ◌or_else◌, transaction_limit, tran
 use Rattle.laws.specs.Room.{Room}
 
 -- a check that does not refuse was passed, and so were those after it
-pub passed : (t : Bool) (k : ℕ) (w : Refusal) → 0 < k → (if t then refusal k else w).number ≡ 0 → (t ≡ false) × (w.number ≡ 0)
+pub passed : (t : Bool) (k : ℕ) (w : Refusal) → 0 < k → (if t then refusal k otherwise w).number ≡ 0 → (t ≡ false) × (w.number ≡ 0)
 passed t k w h = took_other (λ (z : Refusal). z.number ≡ 0) t (refusal k) w (λ q. omega arith)
 
 -- where neither of two refuses
 pub neither : (z y : Refusal) → (z or_else y).number ≡ 0 → (z.number ≡ 0) × (y.number ≡ 0)
-unfolding ◌or_else◌ if◌then◌else◌
+unfolding ◌or_else◌ if◌then◌otherwise◌
 neither z y e = go (eqb z.number 0) refl e
   where
-    go : (t : Bool) → eqb z.number 0 ≡ t → (if t then y else z).number ≡ 0 → (z.number ≡ 0) × (y.number ≡ 0)
+    go : (t : Bool) → eqb z.number 0 ≡ t → (if t then y otherwise z).number ≡ 0 → (z.number ≡ 0) × (y.number ≡ 0)
     go true q e = (eqb-true z.number 0 q, e)
     go false q e = absurd (eqb-false z.number 0 q e)
 
@@ -50,9 +50,9 @@ room_had m n r = rw (le-leb _ _ r.programs_fit, le-leb _ _ r.erases_fit, le-leb 
 -- .. and then w
 abbrev first_three : ℕ → ℕ → Kept → Refusal → Refusal
 first_three part al kept w =
-    if not (is_part part) then refusal 1 else
-    if not (al =? (part_of part).size) then refusal 2 else
-    if not (well_formed (part_of part) kept) then refusal 3 else
+    if not (is_part part) then refusal 1 otherwise
+    if not (al =? (part_of part).size) then refusal 2 otherwise
+    if not (well_formed (part_of part) kept) then refusal 3 otherwise
     w
 
 pub record Opened (part al : ℕ) (kept : Kept) : Type 0 where
@@ -74,7 +74,7 @@ opened_by part al kept is size ok a b c d e f =
     record { known = sym a ∙ not-false is b; long = d ∙ c; formed = sym e ∙ not-false ok f }
 
 pub past_three : (part al : ℕ) (kept : Kept) (w : Refusal) → Opened part al kept → first_three part al kept w ≡ w
-unfolding if◌then◌else◌
+unfolding if◌then◌otherwise◌
 past_three part al kept w o = rw (o.known, eq-eqb al (part_of part).size o.long, o.formed)
 
 -- ---- every check of a transaction

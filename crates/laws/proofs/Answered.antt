@@ -4,7 +4,7 @@ use mathlib.Core.List.{List, ◌++◌}
 use Prim.Native.Nat.{ℕ}
 use lib.ListN.{length, drop}
 use borrow.Author.Tests.{ne_eqb}
-use Rattle.lists.specs.Choice.{if◌then◌else◌}
+use Rattle.lists.specs.Choice.{if◌then◌otherwise◌}
 use Rattle.lists.specs.Places.{tabulate}
 use Rattle.rules.specs.declared.Kept.{Kept}
 use Rattle.rules.specs.declared.Meter.{Meter}
@@ -42,11 +42,11 @@ module _ (part : ℕ) (kept : Kept) (m : Meter) (l o b : List ℕ) (x wp : ℕ) 
 
   pub transact_served_lem : (v : Verdict) → refusal_is.number ≡ 0 → v ≡ verdict_of (part_of part) (regs_of kept) b x (is_high wp)
       → seen_by v ≡ transact_of part kept m l o b x wp
-  unfolding transact_of transact_served turn_of if◌then◌else◌
+  unfolding transact_of transact_served turn_of if◌then◌otherwise◌
   transact_served_lem v e f = ap seen_by f ∙ sym (rw e)
 
   pub transact_refused_lem : (z : Refusal) → z ≡ refusal_is → (z.number ≡ 0 → ⊥) → transact_seen (transact_told kept m (Tr.Refused z)) l o ≡ transact_of part kept m l o b x wp
-  unfolding transact_of transact_refused if◌then◌else◌
+  unfolding transact_of transact_refused if◌then◌otherwise◌
   transact_refused_lem z e h = rw (← e, ne_eqb z.number 0 h)
 
 -- a command that drives the array leaves it: so its output may be made after it
@@ -70,10 +70,10 @@ out-after p r l b n (CarriedOut (Writes w)) = refl
 -- the registers taken apart as r, moved by f to s, and put together as back
 pub event_served : (part : ℕ) (kept back : Kept) (f : Regs → Regs) (r s : Regs) → (event_refusal part kept).number ≡ 0
     → r ≡ regs_of kept → s ≡ f r → back ≡ kept_of s → event_told kept (Ev.Passed back) ≡ event_of part kept f
-unfolding event_of if◌then◌else◌
+unfolding event_of if◌then◌otherwise◌
 event_served part kept back f r s e p q w = ap (λ (k : Kept). event_told kept (Ev.Passed k)) (w ∙ ap kept_of (q ∙ ap f p)) ∙ sym (rw e)
 
 pub event_refused : (part : ℕ) (kept : Kept) (f : Regs → Regs) (z : Refusal) → z ≡ event_refusal part kept → (z.number ≡ 0 → ⊥)
     → event_told kept (Ev.Refused z) ≡ event_of part kept f
-unfolding event_of if◌then◌else◌
+unfolding event_of if◌then◌otherwise◌
 event_refused part kept f z e h = rw (← e, ne_eqb z.number 0 h)

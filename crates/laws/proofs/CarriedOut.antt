@@ -6,7 +6,7 @@ use Prim.Native.Nat.{ℕ, ◌<◌}
 use native.Mathlib.Omega.{arith}
 use lib.ListN.{length, get_or}
 use borrow.Author.Tests.{eqb-false, ne_eqb, not-false}
-use Rattle.lists.specs.Choice.{if◌then◌else◌, ◌=?◌}
+use Rattle.lists.specs.Choice.{if◌then◌otherwise◌, ◌=?◌}
 use Rattle.lists.proofs.Choice.{took_other}
 use Rattle.lists.specs.declared.Found.{Found}
 use Rattle.lists.specs.declared.Found.TheVariants.{At, Nothing}
@@ -72,7 +72,7 @@ pub record Passed (p : Part) (r : Regs) (b : List ℕ) (x : ℕ) (high : Bool) (
 -- ---- from the verdict to the tests
 
 -- a choice that is carried out took its other side
-other : (t : Bool) (n : ℕ) (v : Verdict) (k : Kind) → (if t then ignored n else v) ≡ CarriedOut k → (t ≡ false) × (v ≡ CarriedOut k)
+other : (t : Bool) (n : ℕ) (v : Verdict) (k : Kind) → (if t then ignored n otherwise v) ≡ CarriedOut k → (t ≡ false) × (v ≡ CarriedOut k)
 other t n v k = took_other (λ (w : Verdict). w ≡ CarriedOut k) t (ignored n) v (λ q. let z : ◌≡◌ {A = ℕ} 0 1 = cc in omega arith)
 
 unprotected : (j k : Kind) (f : Found) → protection_verdict j f ≡ CarriedOut k → (j ≡ k) × (f ≡ Nothing)
@@ -127,7 +127,7 @@ carried_passed p r b x high k e =
 
 module _ (p : Part) (r : Regs) (high : Bool) (a : ℕ) where
   passed_kind : (k : Kind) → ((w : Write) → k ≡ Writes w → WritePassed p r high a w) → of_write k (CarriedOut k) (write_verdict p r high a k) ≡ CarriedOut k
-  unfolding of_write write_verdict if◌then◌else◌
+  unfolding of_write write_verdict if◌then◌otherwise◌
   passed_kind =
       by_write
       (λ k. ((w : Write) → k ≡ Writes w → WritePassed p r high a w) → of_write k (CarriedOut k) (write_verdict p r high a k) ≡ CarriedOut k)
@@ -135,7 +135,7 @@ module _ (p : Part) (r : Regs) (high : Bool) (a : ℕ) where
       (λ w q. let h = q w refl in simp (h.enabled, h.unlocked, h.bare))
 
 pub passed_carried : (p : Part) (r : Regs) (b : List ℕ) (x : ℕ) (high : Bool) (k : Kind) → Passed p r b x high k → verdict_of p r b x high ≡ CarriedOut k
-unfolding judge_of kind_verdict of_known if◌then◌else◌
+unfolding judge_of kind_verdict of_known if◌then◌otherwise◌
 passed_carried p r b x high k h =
     let n = h.not_empty in
     verdict_judged p r b x high

@@ -8,7 +8,7 @@ use native.Mathlib.Omega.{arith}
 use lib.Dec.{lit≤}
 use lib.ListN.{length, get_or}
 use borrow.Author.Tests.{eqb-true, eq-eqb, leb-true, le-leb}
-use Rattle.lists.specs.Choice.{if◌then◌else◌, ◌=?◌, ◌≤?◌}
+use Rattle.lists.specs.Choice.{if◌then◌otherwise◌, ◌=?◌, ◌≤?◌}
 use Rattle.lists.proofs.Choice.{both_true, either_true, by_choice}
 use Rattle.rules.specs.declared.EraseUnit.{EraseUnit}
 use Rattle.rules.specs.declared.EraseUnit.TheVariants.{Sector, Block32, Block64, Chip}
@@ -93,21 +93,21 @@ fm_sound =
 -- ---- tapeable
 
 unit_erased : (u : EraseUnit) (a : ℕ) → Offers fm25q16 (Writes (Erase u)) (length (erase_bytes u a))
-unfolding fm25q16 row_of row_in fm_commands takes leaves if◌then◌else◌
+unfolding fm25q16 row_of row_in fm_commands takes leaves if◌then◌otherwise◌
 unit_erased Sector a = record { known = refl; shape = refl }
 unit_erased Block32 a = record { known = refl; shape = refl }
 unit_erased Block64 a = record { known = refl; shape = refl }
 unit_erased Chip a = record { known = refl; shape = refl }
 
 guard_written : (r : Regs) (g : ℕ) → g ≤ 31 → fm_status_written r (fm_guard_bytes g) ≡ guarded fm25q16 r g
-unfolding fm25q16 fm_status_written fm_guard_bytes fm_first fm_second if◌then◌else◌
+unfolding fm25q16 fm_status_written fm_guard_bytes fm_first fm_second if◌then◌otherwise◌
 guard_written r g h =
     let s : 4 * g / 4 % 32 ≡ g = omega arith in
     let z : 4 * g / 128 % 2 ≡ 0 = omega arith in
     rw (s, z)
 
 pub fm_tapeable : Tapeable fm25q16
-unfolding fm25q16 row_of row_in fm_commands takes leaves fm_guard_bytes if◌then◌else◌
+unfolding fm25q16 row_of row_in fm_commands takes leaves fm_guard_bytes if◌then◌otherwise◌
 fm_tapeable =
     record {
       sound = fm_sound;

@@ -4,7 +4,7 @@ use mathlib.Core.Bool.{Bool, not}
 use mathlib.Core.List.{List}
 use Prim.Native.Nat.{ℕ}
 use lib.ListN.{length, get_or}
-use Rattle.lists.specs.Choice.{if◌then◌else◌, ◌=?◌}
+use Rattle.lists.specs.Choice.{if◌then◌otherwise◌, ◌=?◌}
 use Rattle.lists.specs.declared.Found.{Found}
 use Rattle.lists.specs.declared.Found.TheVariants.{At, Nothing}
 use Rattle.rules.specs.declared.Regs.{Regs}
@@ -24,23 +24,23 @@ use Rattle.laws.specs.Judged.{protection_verdict, write_verdict, kind_verdict, j
 -- the tests from 12, unknown command, on
 abbrev from_unknown : Part → Regs → Bool → Bool → ℕ → Command → Verdict
 from_unknown p r fit high a c =
-    if is_unknown c then ignored 12 else
-    if not fit then ignored 13 else
-    if not_enabled r c then ignored 14 else
-    if status_locked r high c then ignored 15 else
-    if touches_protected p r a c then ignored 16 else
+    if is_unknown c then ignored 12 otherwise
+    if not fit then ignored 13 otherwise
+    if not_enabled r c then ignored 14 otherwise
+    if status_locked r high c then ignored 15 otherwise
+    if touches_protected p r a c then ignored 16 otherwise
     carried_out c
 
 -- .. of a found byte or none
-by_found : (k : Kind) (f : Found) → (if was_found f then ignored 16 else CarriedOut k) ≡ protection_verdict k f
-unfolding if◌then◌else◌
+by_found : (k : Kind) (f : Found) → (if was_found f then ignored 16 otherwise CarriedOut k) ≡ protection_verdict k f
+unfolding if◌then◌otherwise◌
 by_found k (At x) = refl
 by_found k Nothing = refl
 
 module _ (p : Part) (r : Regs) (fit high : Bool) (a : ℕ) where
   -- a kind that writes nothing passes 14, 15 and 16
   pieces : (c : Command) → from_unknown p r fit high a c ≡ of_known c (ignored 12) (kind_verdict p r fit high a)
-  unfolding of_known of_write kind_verdict write_verdict some_protected if◌then◌else◌
+  unfolding of_known of_write kind_verdict write_verdict some_protected if◌then◌otherwise◌
   pieces Unknown = refl
   pieces (Known WriteEnable) = refl
   pieces (Known WriteDisable) = refl
@@ -54,7 +54,7 @@ module _ (p : Part) (r : Regs) (fit high : Bool) (a : ℕ) where
   pieces (Known ReadJedec) = refl
   pieces (Known (Writes w)) =
       ap
-      (λ (v : Verdict). if not fit then ignored 13 else if not r.wel then ignored 14 else if locked_out w r high then ignored 15 else v)
+      (λ (v : Verdict). if not fit then ignored 13 otherwise if not r.wel then ignored 14 otherwise if locked_out w r high then ignored 15 otherwise v)
       (by_found (Writes w) (first_protected p r.setting (reach_start w a) (reach_length p w)))
 
 pub verdict_judged : (p : Part) (r : Regs) (b : List ℕ) (x : ℕ) (high : Bool)
@@ -63,5 +63,5 @@ unfolding verdict_of judge_of
 verdict_judged p r b x high =
     let op = get_or b 0 0 in
     ap
-    (λ (v : Verdict). if length b =? 0 then ignored 12 else if unheard_asleep p r op then ignored 11 else if unheard_busy p r op then ignored 10 else v)
+    (λ (v : Verdict). if length b =? 0 then ignored 12 otherwise if unheard_asleep p r op then ignored 11 otherwise if unheard_busy p r op then ignored 10 otherwise v)
     (pieces p r (shaped p op (length b) x) high (address_of p b) (command_of p op))

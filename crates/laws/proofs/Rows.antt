@@ -5,7 +5,7 @@ use mathlib.Core.List.{List, [], ◌∷◌}
 use Prim.Native.Nat.{ℕ, ◌<◌}
 use native.Mathlib.Omega.{arith}
 use borrow.Author.Tests.{eq-eqb, ne_eqb, eqb-false, leb-true, not-true}
-use Rattle.lists.specs.Choice.{if◌then◌else◌, ◌=?◌, ◌≤?◌}
+use Rattle.lists.specs.Choice.{if◌then◌otherwise◌, ◌=?◌, ◌≤?◌}
 use Rattle.lists.proofs.Choice.{both_true}
 use Rattle.rules.specs.declared.Kind.{Kind}
 use Rattle.rules.specs.declared.Row.{Row}
@@ -24,7 +24,7 @@ abbrev pub Unlisted : ℕ → List Row → Type 0
 Unlisted op = Each (λ w. op ≡ w.code → ⊥)
 
 pub no_row : (op : ℕ) (ws : List Row) → Unlisted op ws → row_in ws op ≡ L.Unlisted
-unfolding row_in if◌then◌else◌
+unfolding row_in if◌then◌otherwise◌
 no_row op [] end = refl
 no_row op (w ∷ ws) (h ⊳ hs) = rw (ne_eqb op w.code h) (no_row op ws hs)
 
@@ -55,7 +55,7 @@ distinct_codes (w ∷ ws) = unlisted_in w.code ws && distinct_codes ws
 -- rows found in ws are found behind a row of another code
 behind : (w : Row) (ws vs : List Row) → unlisted_in w.code vs ≡ true
     → Each (λ v. row_in ws v.code ≡ L.Line v) vs → Each (λ v. row_in (w ∷ ws) v.code ≡ L.Line v) vs
-unfolding unlisted_in row_in if◌then◌else◌
+unfolding unlisted_in row_in if◌then◌otherwise◌
 behind w ws [] e end = end
 behind w ws (v ∷ vs) e (h ⊳ hs) =
     let b = both_true (not (w.code =? v.code)) (unlisted_in w.code vs) e in
@@ -64,7 +64,7 @@ behind w ws (v ∷ vs) e (h ⊳ hs) =
 
 -- so the code of each row finds that row
 pub rows_found : (ws : List Row) → distinct_codes ws ≡ true → Each (λ w. row_in ws w.code ≡ L.Line w) ws
-unfolding distinct_codes row_in if◌then◌else◌
+unfolding distinct_codes row_in if◌then◌otherwise◌
 rows_found [] e = end
 rows_found (w ∷ ws) e =
     let b = both_true (unlisted_in w.code ws) (distinct_codes ws) e in
@@ -77,12 +77,12 @@ every_kind f [] = true
 every_kind f (w ∷ ws) = f w.kind && every_kind f ws
 
 pub kind_said : (f : Kind → Bool) (ws : List Row) → every_kind f ws ≡ true → (op : ℕ) (k : Kind) → command_by (row_in ws op) ≡ Known k → f k ≡ true
-unfolding every_kind row_in if◌then◌else◌
+unfolding every_kind row_in if◌then◌otherwise◌
 kind_said f [] h op k e = let z : ◌≡◌ {A = ℕ} 0 1 = cc in absurd (omega arith)
 kind_said f (w ∷ ws) h op k e =
     let b = both_true (f w.kind) (every_kind f ws) h in
     go (op =? w.code) b.0 (kind_said f ws b.1 op k) e
   where
-    go : (t : Bool) → f w.kind ≡ true → (command_by (row_in ws op) ≡ Known k → f k ≡ true) → command_by (if t then L.Line w else row_in ws op) ≡ Known k → f k ≡ true
+    go : (t : Bool) → f w.kind ≡ true → (command_by (row_in ws op) ≡ Known k → f k ≡ true) → command_by (if t then L.Line w otherwise row_in ws op) ≡ Known k → f k ≡ true
     go true a rest q = let s : w.kind ≡ k = cc in rw (← s) a
     go false a rest q = rest q

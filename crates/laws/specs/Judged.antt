@@ -1,6 +1,6 @@
 -- The verdict in pieces, each the tests that one function of the code makes. `proofs/Judged` shows that they are `verdict_of`.
 use Rattle.std.specs.Prelude.{ℕ, Bool, not}
-use Rattle.lists.specs.Choice.{if◌then◌else◌, ◌=?◌}
+use Rattle.lists.specs.Choice.{if◌then◌otherwise◌, ◌=?◌}
 use Rattle.lists.specs.declared.Found.{Found}
 use Rattle.lists.specs.declared.Found.TheVariants.{At, Nothing}
 use Rattle.rules.specs.declared.Regs.{Regs}
@@ -23,20 +23,20 @@ protection_verdict k Nothing = CarriedOut k
 -- 14, 15, 16, or carried out: a write of kind k at address a
 unfoldable pub write_verdict : Part → Regs → Bool → ℕ → Kind → Write → Verdict
 write_verdict p r high a k w =
-    if not r.wel then ignored 14 else
-    if locked_out w r high then ignored 15 else
+    if not r.wel then ignored 14 otherwise
+    if locked_out w r high then ignored 15 otherwise
     protection_verdict k (first_protected p r.setting (reach_start w a) (reach_length p w))
 
 -- 13, or what the kind asks: its bytes and bits fit, or they do not
 unfoldable pub kind_verdict : Part → Regs → Bool → Bool → ℕ → Kind → Verdict
 kind_verdict p r fit high a k =
-    if not fit then ignored 13 else
+    if not fit then ignored 13 otherwise
     of_write k (CarriedOut k) (write_verdict p r high a k)
 
 -- 12, 11, 10, 12, or what a known command asks: op, the first of n bytes, says c to the chip
 unfoldable pub judge_of : Part → Regs → ℕ → Bool → Bool → ℕ → ℕ → Command → Verdict
 judge_of p r n fit high op a c =
-    if n =? 0 then ignored 12 else
-    if unheard_asleep p r op then ignored 11 else
-    if unheard_busy p r op then ignored 10 else
+    if n =? 0 then ignored 12 otherwise
+    if unheard_asleep p r op then ignored 11 otherwise
+    if unheard_busy p r op then ignored 10 otherwise
     of_known c (ignored 12) (kind_verdict p r fit high a)

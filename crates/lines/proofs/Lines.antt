@@ -8,7 +8,7 @@ use native.Mathlib.Nat.{add-zero, zero-add, suc-add}
 use lib.Dec.{eqb}
 use lib.ListN.{length, get_or, length-append}
 use borrow.Author.Tests.{le-leb, ltb-false, not-false}
-use Rattle.lists.specs.Choice.{if◌then◌else◌, ◌=?◌, ◌<?◌}
+use Rattle.lists.specs.Choice.{if◌then◌otherwise◌, ◌=?◌, ◌<?◌}
 use Rattle.lists.specs.declared.Found.{Found}
 use Rattle.lists.specs.declared.Found.TheVariants.{At, Nothing}
 use Rattle.lists.proofs.Search.{first_none}
@@ -34,11 +34,11 @@ pub record Listable (t : List ℕ) : Type 0 where
   pub good : first_bad t ≡ Nothing
 
 pub listable : (t : List ℕ) → accepted (fault_of t) ≡ true → Listable t
-unfolding fault_of if◌then◌else◌
+unfolding fault_of if◌then◌otherwise◌
 listable t e = go (listing_limit <? length t) (whole t) (first_bad t) refl refl refl e
   where
     go : (a w : Bool) (f : Found) → (listing_limit <? length t) ≡ a → whole t ≡ w → first_bad t ≡ f
-        → accepted (if a || not w then refusal 30 else bad_record f) ≡ true → Listable t
+        → accepted (if a || not w then refusal 30 otherwise bad_record f) ≡ true → Listable t
     go true w f h k g e = absurd (true≢false (sym e))
     go false false f h k g e = absurd (true≢false (sym e))
     go false true (At i) h k g e = absurd (true≢false (sym e))
@@ -59,11 +59,11 @@ next-there t p c h = sym (next-told p (read_at t p)) ∙ ap (next_place p) (read
 
 -- and its line is the record's
 pub line_there : (t : List ℕ) (p : ℕ) → Listable t → p < records t → line_of t p (read_at t p) ≡ record_line t p
-unfolding record_line said_at if◌then◌else◌
+unfolding record_line said_at if◌then◌otherwise◌
 line_there t p c h = rw (read_there t p c h) (go (eqb (kind_at t p) 0) (eqb (kind_at t p) 1))
   where
     said : Bool → Bool → AtPlace
-    said a b = if a then Transaction (sent_at t p) else if b then Finish else PowerCycle
+    said a b = if a then Transaction (sent_at t p) otherwise if b then Finish otherwise PowerCycle
 
     go : (a b : Bool) → line_of t p (said a b) ≡ indexed p (record_text t (said a b) ++ line_feed ∷ [])
     go true b = refl
@@ -73,16 +73,16 @@ line_there t p c h = rw (read_there t p c h) (go (eqb (kind_at t p) 0) (eqb (kin
 -- ---- after the last
 
 pub line_past : (t : List ℕ) (p : ℕ) → Listable t → records t ≤ p → line_of t p (read_at t p) ≡ []
-unfolding read_at if◌then◌else◌
+unfolding read_at if◌then◌otherwise◌
 line_past t p c h = rw (c.whole_records, le-leb (records t) p h)
 
 -- ---- lengths
 
 text_length : (t : List ℕ) (a : AtPlace) → length (record_text t a) ≤ 8
-unfolding if◌then◌else◌
+unfolding if◌then◌otherwise◌
 text_length t (Transaction s) = go (s.length =? 0)
   where
-    go : (b : Bool) → length (0x54 ∷ space ∷ (if b then 0x2D ∷ 0x2D ∷ [] else hex2 (get_or t s.start 0)) ++ space ∷ digits3 s.length) ≤ 8
+    go : (b : Bool) → length (0x54 ∷ space ∷ (if b then 0x2D ∷ 0x2D ∷ [] otherwise hex2 (get_or t s.start 0)) ++ space ∷ digits3 s.length) ≤ 8
     go true = omega arith
     go false = omega arith
 text_length t Finish = omega arith
@@ -133,11 +133,11 @@ line_more t p =
 -- ---- the listing
 
 pub listing_clean : (t : List ℕ) → accepted (fault_of t) ≡ true → listing_of t ≡ lines_from t 0 (records t)
-unfolding if◌then◌else◌
+unfolding if◌then◌otherwise◌
 listing_clean t e = listing_is t ∙ rw e
 
 pub listing_refused : (t : List ℕ) → accepted (fault_of t) ≡ false → listing_of t ≡ refused_line (fault_of t).number (fault_of t).index
-unfolding if◌then◌else◌
+unfolding if◌then◌otherwise◌
 listing_refused t e = listing_is t ∙ rw e
 
 -- 248 lines of a record, or one of a fault

@@ -4,7 +4,7 @@ use mathlib.Core.Bool.{Bool, true, false, not, ◌||◌}
 use mathlib.Core.List.{List}
 use Prim.Native.Nat.{ℕ}
 use lib.ListN.{length}
-use Rattle.lists.specs.Choice.{if◌then◌else◌, ◌<?◌}
+use Rattle.lists.specs.Choice.{if◌then◌otherwise◌, ◌<?◌}
 use Rattle.lists.specs.declared.Found.{Found}
 use Rattle.lists.specs.declared.Found.TheVariants.{At, Nothing}
 use Rattle.rules.specs.Listing.{listing_limit, lines_from, refused_line, listed, listing_of}
@@ -13,12 +13,12 @@ use Rattle.rules.specs.Replay.{bad_record}
 use Rattle.rules.specs.Tape.{records, whole, first_bad}
 use Rattle.lines.specs.Fault.{fault_of}
 
-pub listing_is : (t : List ℕ) → listing_of t ≡ (if accepted (fault_of t) then lines_from t 0 (records t) else refused_line (fault_of t).number (fault_of t).index)
-unfolding listing_of fault_of if◌then◌else◌
+pub listing_is : (t : List ℕ) → listing_of t ≡ (if accepted (fault_of t) then lines_from t 0 (records t) otherwise refused_line (fault_of t).number (fault_of t).index)
+unfolding listing_of fault_of if◌then◌otherwise◌
 listing_is t = go ((listing_limit <? length t) || not (whole t)) (first_bad t)
   where
-    go : (b : Bool) (f : Found) → (if b then refused_line 30 0 else listed t f)
-        ≡ (let z = if b then refusal 30 else bad_record f in if accepted z then lines_from t 0 (records t) else refused_line z.number z.index)
+    go : (b : Bool) (f : Found) → (if b then refused_line 30 0 otherwise listed t f)
+        ≡ (let z = if b then refusal 30 otherwise bad_record f in if accepted z then lines_from t 0 (records t) otherwise refused_line z.number z.index)
     go true f = refl
     go false (At i) = refl
     go false Nothing = refl

@@ -1,6 +1,6 @@
 -- What the listing program refuses of a tape, before its first line.
 use Rattle.std.specs.Prelude.{not, ◌||◌, List, ℕ, length}
-use Rattle.lists.specs.Choice.{if◌then◌else◌, ◌<?◌}
+use Rattle.lists.specs.Choice.{if◌then◌otherwise◌, ◌<?◌}
 use Rattle.rules.specs.declared.Refusal.{Refusal}
 use Rattle.rules.specs.Listing.{listing_limit}
 use Rattle.rules.specs.Refusals.{refusal}
@@ -9,4 +9,4 @@ use Rattle.rules.specs.Tape.{whole, first_bad}
 
 -- 30, then 31 with the index of the first bad record; number 0 is none
 unfoldable pub fault_of : List ℕ → Refusal
-fault_of t = if (listing_limit <? length t) || not (whole t) then refusal 30 else bad_record (first_bad t)
+fault_of t = if (listing_limit <? length t) || not (whole t) then refusal 30 otherwise bad_record (first_bad t)

@@ -4,26 +4,26 @@ use mathlib.Core.Bool.{Bool, true, false, ◌&&◌, ◌||◌}
 use mathlib.Core.Logic.{◌⊎◌, inl, inr, ⊎_elim, ◌↔◌}
 use Prim.Native.Nat.{ℕ}
 use native.Mathlib.Omega.{arith}
-use Rattle.lists.specs.Choice.{if◌then◌else◌}
+use Rattle.lists.specs.Choice.{if◌then◌otherwise◌}
 
 -- a choice whose test is known; the sides are found from the goal
-pub if-true {ℓ} : {A : Type ℓ} (t : Bool) (a b : A) → t ≡ true → (if t then a else b) ≡ a
-unfolding if◌then◌else◌
+pub if-true {ℓ} : {A : Type ℓ} (t : Bool) (a b : A) → t ≡ true → (if t then a otherwise b) ≡ a
+unfolding if◌then◌otherwise◌
 if-true t a b e = rw e
 
-pub if-false {ℓ} : {A : Type ℓ} (t : Bool) (a b : A) → t ≡ false → (if t then a else b) ≡ b
-unfolding if◌then◌else◌
+pub if-false {ℓ} : {A : Type ℓ} (t : Bool) (a b : A) → t ≡ false → (if t then a otherwise b) ≡ b
+unfolding if◌then◌otherwise◌
 if-false t a b e = rw e
 
 -- what holds of both sides of a choice holds of the choice
-pub by_choice {ℓ} : {A : Type 0} (P : A → Type ℓ) (t : Bool) (a b : A) → P a → P b → P (if t then a else b)
-unfolding if◌then◌else◌
+pub by_choice {ℓ} : {A : Type 0} (P : A → Type ℓ) (t : Bool) (a b : A) → P a → P b → P (if t then a otherwise b)
+unfolding if◌then◌otherwise◌
 by_choice P true a b h k = h
 by_choice P false a b h k = k
 
 -- what holds of a choice, but not of its first side, holds of its other
-pub took_other : {A : Type 0} (P : A → Type 0) (t : Bool) (a b : A) → (P a → ⊥) → P (if t then a else b) → (t ≡ false) × P b
-unfolding if◌then◌else◌
+pub took_other : {A : Type 0} (P : A → Type 0) (t : Bool) (a b : A) → (P a → ⊥) → P (if t then a otherwise b) → (t ≡ false) × P b
+unfolding if◌then◌otherwise◌
 took_other P true a b h e = absurd (h e)
 took_other P false a b h e = (refl, e)
 

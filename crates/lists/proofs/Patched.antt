@@ -9,7 +9,7 @@ use lib.ListN.{length, get_or, take, drop, length-append, length-take, length-dr
 use lib.Seq.{get_or-append-add, get_or-take, get_or-drop, length-take-le, take_all}
 use borrow.Author.Tests.{lt-ltb, le-leb, lt-leb, leb-true, leb-false, ltb-true, ltb-false}
 use borrow.Rule.Slice.PartMut.{put_mid, mid_of, Post-is, mid_len}
-use Rattle.lists.specs.Choice.{if◌then◌else◌, ◌<?◌, ◌≤?◌}
+use Rattle.lists.specs.Choice.{if◌then◌otherwise◌, ◌<?◌, ◌≤?◌}
 use Rattle.lists.specs.Places.{tabulate, patched}
 use Rattle.lists.proofs.Tabulate.{tab_length, tab_at, tab_same}
 
@@ -68,10 +68,10 @@ after l a n f y h =
 
 -- a place of a patched list: the patch within, the old elsewhere
 pub patched_at : (l : List ℕ) (a n : ℕ) (f : ℕ → ℕ) (x : ℕ) → a ≤ length l
-    → get_or (patched l a n f) x 0 ≡ (if within a n x then f (x - a) else get_or l x 0)
-unfolding if◌then◌else◌
+    → get_or (patched l a n f) x 0 ≡ (if within a n x then f (x - a) otherwise get_or l x 0)
+unfolding if◌then◌otherwise◌
 patched_at l a n f x h =
-    by_place (λ (t : Bool). get_or (patched l a n f) x 0 ≡ (if t then f (x - a) else get_or l x 0)) a n x
+    by_place (λ (t : Bool). get_or (patched l a n f) x 0 ≡ (if t then f (x - a) otherwise get_or l x 0)) a n x
     (λ p q. let e : a + (x - a) ≡ x = omega arith in
     subst (λ (z : ℕ). get_or (patched l a n f) z 0 ≡ f (x - a)) e (inside l a n f (x - a) h (omega arith)))
     (λ p. before l a n f x h p)
@@ -79,14 +79,14 @@ patched_at l a n f x h =
     subst (λ (z : ℕ). get_or (patched l a n f) z 0 ≡ get_or l z 0) e (after l a n f (x - (a + n)) h))
 
 pub patched_inside : (l : List ℕ) (a n : ℕ) (f : ℕ → ℕ) (x : ℕ) → a ≤ length l → a ≤ x → x < a + n → get_or (patched l a n f) x 0 ≡ f (x - a)
-unfolding if◌then◌else◌
+unfolding if◌then◌otherwise◌
 patched_inside l a n f x h p q = patched_at l a n f x h ∙ rw (within_yes a n x p q)
 
 pub patched_below : (l : List ℕ) (a n : ℕ) (f : ℕ → ℕ) (x : ℕ) → a ≤ length l → x < a → get_or (patched l a n f) x 0 ≡ get_or l x 0
 patched_below = before
 
 pub patched_above : (l : List ℕ) (a n : ℕ) (f : ℕ → ℕ) (x : ℕ) → a ≤ length l → a + n ≤ x → get_or (patched l a n f) x 0 ≡ get_or l x 0
-unfolding if◌then◌else◌
+unfolding if◌then◌otherwise◌
 patched_above l a n f x h p = patched_at l a n f x h ∙ rw (within_above a n x p)
 
 -- two patches of the same stretch that agree at its places are the same

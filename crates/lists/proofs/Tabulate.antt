@@ -10,7 +10,7 @@ use lib.ListN.{length, get_or, drop, set}
 use lib.Seq.{get_or-append-add, drop-cons, drop-length, ext_get_or, get_or-set_same, get_or-set_other}
 use lib.Dec.{eqb}
 use borrow.Author.Tests.{eqb-true, eqb-false}
-use Rattle.lists.specs.Choice.{if◌then◌else◌, ◌=?◌}
+use Rattle.lists.specs.Choice.{if◌then◌otherwise◌, ◌=?◌}
 use Rattle.lists.specs.Places.{tabulate_from, tabulate}
 
 -- ---- from a number on
@@ -82,10 +82,10 @@ tab_all f d i e =
 
 -- ---- a store, by its places
 
-pub set_if : (l : List ℕ) (k j b : ℕ) → k < length l → get_or (set l k b) j 0 ≡ (if k =? j then b else get_or l j 0)
-unfolding if◌then◌else◌
+pub set_if : (l : List ℕ) (k j b : ℕ) → k < length l → get_or (set l k b) j 0 ≡ (if k =? j then b otherwise get_or l j 0)
+unfolding if◌then◌otherwise◌
 set_if l k j b h = go (eqb k j) refl
   where
-    go : (t : Bool) → eqb k j ≡ t → get_or (set l k b) j 0 ≡ (if t then b else get_or l j 0)
+    go : (t : Bool) → eqb k j ≡ t → get_or (set l k b) j 0 ≡ (if t then b otherwise get_or l j 0)
     go true e = ap (λ (v : ℕ). get_or (set l k b) v 0) (sym (eqb-true k j e)) ∙ get_or-set_same l k b 0 h
     go false e = get_or-set_other l k j b 0 (λ q. eqb-false k j e (sym q))

@@ -1,6 +1,6 @@
 -- Lists that are given by their places, and searches among places.
 use Rattle.std.specs.Prelude.{ℕ, zero, suc, ◌+◌, Bool, true, ◌&&◌, List, [], ◌∷◌, ◌++◌, take, drop}
-use Rattle.lists.specs.Choice.{if◌then◌else◌}
+use Rattle.lists.specs.Choice.{if◌then◌otherwise◌}
 use Rattle.lists.specs.declared.Found.{Found}
 use Rattle.lists.specs.declared.Found.TheVariants.{At, Nothing}
 
@@ -20,7 +20,7 @@ patched l a n f = take a l ++ (tabulate n f ++ drop (a + n) l)
 -- the first of the n numbers from a on at which the test holds
 unfoldable pub first_in : (ℕ → Bool) → ℕ → ℕ → Found
 first_in test a zero = Nothing
-first_in test a (suc n) = if test a then At a else first_in test (suc a) n
+first_in test a (suc n) = if test a then At a otherwise first_in test (suc a) n
 
 -- the test holds at each of the n numbers from a on
 unfoldable pub every_in : (ℕ → Bool) → ℕ → ℕ → Bool

@@ -7,7 +7,7 @@ use native.Mathlib.Omega.{arith}
 use lib.Dec.{lit≤}
 use lib.ListN.{length}
 use borrow.Author.Tests.{eqb-true, le-leb}
-use Rattle.lists.specs.Choice.{if◌then◌else◌}
+use Rattle.lists.specs.Choice.{if◌then◌otherwise◌}
 use Rattle.rules.specs.declared.EraseUnit.{EraseUnit}
 use Rattle.rules.specs.declared.EraseUnit.TheVariants.{Sector, Block32, Block64, Chip}
 use Rattle.rules.specs.declared.Write.TheVariants.{Erase}
@@ -45,18 +45,18 @@ mu_sound =
 -- ---- tapeable
 
 unit_erased : (u : EraseUnit) (a : ℕ) → mu_erases u ≡ true → Offers madeup (Writes (Erase u)) (length (erase_bytes u a))
-unfolding madeup row_of row_in mu_commands mu_erases takes leaves if◌then◌else◌
+unfolding madeup row_of row_in mu_commands mu_erases takes leaves if◌then◌otherwise◌
 unit_erased Sector a e = let z : ◌≡◌ {A = ℕ} 0 1 = cc in absurd (omega arith)
 unit_erased Block32 a e = let z : ◌≡◌ {A = ℕ} 0 1 = cc in absurd (omega arith)
 unit_erased Block64 a e = record { known = refl; shape = refl }
 unit_erased Chip a e = record { known = refl; shape = refl }
 
 guard_written : (r : Regs) (g : ℕ) → g ≤ 15 → mu_status_written r (mu_guard_bytes g) ≡ guarded madeup r g
-unfolding madeup mu_status_written mu_guard_bytes if◌then◌else◌
+unfolding madeup mu_status_written mu_guard_bytes if◌then◌otherwise◌
 guard_written r g h = let s : 4 * g / 4 % 16 ≡ g = omega arith in rw s
 
 pub mu_tapeable : Tapeable madeup
-unfolding madeup row_of row_in mu_commands takes leaves mu_guard_bytes if◌then◌else◌
+unfolding madeup row_of row_in mu_commands takes leaves mu_guard_bytes if◌then◌otherwise◌
 mu_tapeable =
     record {
       sound = mu_sound;
@@ -73,7 +73,7 @@ mu_tapeable =
 -- ---- steady
 
 busy_quiet : (op : ℕ) (k : Kind) → mu_heard_busy op ≡ true → command_of madeup op ≡ Known k → (r : Regs) (b : List ℕ) → regs_done madeup r b k ≡ r
-unfolding madeup mu_heard_busy row_of row_in mu_commands if◌then◌else◌
+unfolding madeup mu_heard_busy row_of row_in mu_commands if◌then◌otherwise◌
 busy_quiet op k h e r b =
     let q : Known ReadStatusLow ≡ Known k = rw (eqb-true op 5 h) at e in
     let s : ReadStatusLow ≡ k = cc in

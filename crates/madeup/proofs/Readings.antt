@@ -5,7 +5,7 @@ use mathlib.Core.List.{[], ◌∷◌, map}
 use Prim.Native.Nat.{ℕ, ◌<◌}
 use native.Mathlib.Omega.{arith}
 use borrow.Author.Tests.{lt-leb}
-use Rattle.lists.specs.Choice.{if◌then◌else◌, ◌<?◌, ◌≤?◌}
+use Rattle.lists.specs.Choice.{if◌then◌otherwise◌, ◌<?◌, ◌≤?◌}
 use Rattle.lists.specs.Places.{every_in}
 use Rattle.rules.specs.declared.Kept.{Kept}
 use Rattle.rules.specs.declared.Refusal.{Refusal}
@@ -42,7 +42,7 @@ some_overlap p s a n = ap was_found (first_protected_lem p s a n)
 
 -- the area is asked at its ends, so that no byte of a stretch is counted
 pub verdicts_are_the_rows : map number_of readings ≡ map (λ (e : Reading). e.number) readings
-unfolding readings madeup mu_commands mu_heard_asleep mu_heard_busy mu_lo mu_hi regs_of takes leaves row_in row_of verdict_of address_of unheard_asleep unheard_busy locked of_write of_known if◌then◌else◌
+unfolding readings madeup mu_commands mu_heard_asleep mu_heard_busy mu_lo mu_hi regs_of takes leaves row_in row_of verdict_of address_of unheard_asleep unheard_busy locked of_write of_known if◌then◌otherwise◌
 verdicts_are_the_rows = simp (some_overlap, number_of)
 
 pub words_are_the_rows : map (λ (e : Word). well_formed madeup e.kept) words ≡ map (λ (e : Word). e.formed) words
@@ -53,7 +53,7 @@ abbrev refusal_of : Job → Refusal
 refusal_of e = steps_refusal madeup e.setting 4 e.job 0 (step_count e.job)
 
 pub refusals_are_the_rows : map refusal_of jobs ≡ map (λ (e : Job). refusal_at e.number e.index) jobs
-unfolding jobs madeup mu_erases mu_lo mu_hi steps_refusal step_refusal ◌or_else◌ decoded_at decoded_erase decoded_lay decoded_guard unit_by every_in if◌then◌else◌
+unfolding jobs madeup mu_erases mu_lo mu_hi steps_refusal step_refusal ◌or_else◌ decoded_at decoded_erase decoded_lay decoded_guard unit_by every_in if◌then◌otherwise◌
 refusals_are_the_rows = simp first_protected_lem
 
 -- a guard sends one status byte, and sets the setting alone
@@ -62,12 +62,12 @@ unfolding madeup mu_guard_bytes
 guard_sends = refl
 
 pub guard_sets : kept_of (all_regs_meant madeup (regs_of (awake_at 0x3E)) (Guard 9 ∷ [])) ≡ awake_at 0x24
-unfolding madeup all_regs_meant regs_of kept_of status_of if◌then◌else◌
+unfolding madeup all_regs_meant regs_of kept_of status_of if◌then◌otherwise◌
 guard_sets = refl
 
 -- 9F drives its one byte for ever
 pub identifies : map (driven_at madeup (regs_of (awake_at 0x00)) [] [] ReadJedec) (0 ∷ 1 ∷ 2 ∷ 3 ∷ 4 ∷ []) ≡ 0xFF ∷ 0x15 ∷ 0x15 ∷ 0x15 ∷ 0x15 ∷ []
-unfolding madeup mu_jedec from_place if◌then◌else◌
+unfolding madeup mu_jedec from_place if◌then◌otherwise◌
 identifies = refl
 
 -- a block below the area is erased: said of each of its bytes, so that none is counted
@@ -78,5 +78,5 @@ near : (x : ℕ) → x < 131072 → x < 983040
 near x h = omega arith
 
 pub block_erased : step_refusal madeup 15 0 0 (EraseAt Block64 0x012345) ≡ refusal 0
-unfolding madeup mu_erases mu_lo mu_hi step_refusal is_protected if◌then◌else◌
+unfolding madeup mu_erases mu_lo mu_hi step_refusal is_protected if◌then◌otherwise◌
 block_erased = ap (shielded 0) (bare_none madeup 15 0x010000 65536 (λ x h k. below 983040 1048576 x (near x k)))

@@ -8,7 +8,7 @@ use lib.ListN.{length, get_or}
 use lib.Dec.{leb, eqb}
 use borrow.Author.Tests.{le-leb, lt-leb, eqb-true, eqb-false, ne_eqb}
 use borrow.Rule.Slice.PartMut.{put_mid, mid_of, mid_len}
-use Rattle.lists.specs.Choice.{if◌then◌else◌}
+use Rattle.lists.specs.Choice.{if◌then◌otherwise◌}
 use Rattle.lists.specs.Places.{tabulate, patched}
 use Rattle.lists.proofs.Tabulate.{tab_length, tab_at, tab_same, tab_ext}
 use Rattle.lists.proofs.Patched.{by_place, patched-length, patched_inside, patched_below, put_patched}
@@ -19,11 +19,11 @@ use Rattle.cells.specs.InTurn.{in_turn}
 
 -- before its place nothing is driven
 pub below_place : (k : ℕ) (f : ℕ → ℕ) (i : ℕ) → i < k → from_place k f i ≡ 0xFF
-unfolding from_place if◌then◌else◌
+unfolding from_place if◌then◌otherwise◌
 below_place k f i h = rw (lt-leb k i h)
 
 pub from_place_lem : (k : ℕ) (f : ℕ → ℕ) (i : ℕ) → k ≤ i → from_place k f i ≡ f (i - k)
-unfolding from_place if◌then◌else◌
+unfolding from_place if◌then◌otherwise◌
 from_place_lem k f i h = rw (le-leb k i h)
 
 -- an output that ends before the place is FF
@@ -62,10 +62,10 @@ from_none d xs k f h e =
 
 -- what is driven from a place on goes by its bytes
 pub from_same : (n k : ℕ) (f g : ℕ → ℕ) → ((j : ℕ) → f j ≡ g j) → tabulate n (from_place k f) ≡ tabulate n (from_place k g)
-unfolding from_place if◌then◌else◌
+unfolding from_place if◌then◌otherwise◌
 from_same n k f g h = tab_same n (from_place k f) (from_place k g) (λ j l. by (leb k j) (h (j - k)))
   where
-    by : {u v : ℕ} (t : Bool) → u ≡ v → (if t then u else 0xFF) ≡ (if t then v else 0xFF)
+    by : {u v : ℕ} (t : Bool) → u ≡ v → (if t then u otherwise 0xFF) ≡ (if t then v otherwise 0xFF)
     by true e = e
     by false e = refl
 
@@ -76,17 +76,17 @@ driven_by f n k v w s e h = e ∙ ap (λ (x : ℕ). tabulate n (from_place k (f 
 -- maker and device in turn, by the lowest address bit
 pub even_turn : (p : Part) (b : List ℕ) (maker device n : ℕ) → maker ≡ p.maker → device ≡ p.device → get_or b 3 0 % 2 ≡ 0
     → tabulate n (from_place 4 (in_turn maker device)) ≡ tabulate n (from_place 4 (maker_device p b))
-unfolding maker_device if◌then◌else◌
+unfolding maker_device if◌then◌otherwise◌
 even_turn p b maker device n em ed h =
     from_same n 4 (in_turn maker device) (maker_device p b)
     (λ j. let q : (get_or b 3 0 + j) % 2 ≡ j % 2 = omega arith in rw (q, em, ed))
 
 pub odd_turn : (p : Part) (b : List ℕ) (maker device n : ℕ) → maker ≡ p.maker → device ≡ p.device → (get_or b 3 0 % 2 ≡ 0 → ⊥)
     → tabulate n (from_place 4 (in_turn device maker)) ≡ tabulate n (from_place 4 (maker_device p b))
-unfolding maker_device if◌then◌else◌
+unfolding maker_device if◌then◌otherwise◌
 odd_turn p b maker device n em ed h = from_same n 4 (in_turn device maker) (maker_device p b) (λ j. go j (eqb (j % 2) 0) refl)
   where
-    go : (j : ℕ) (t : Bool) → eqb (j % 2) 0 ≡ t → (if t then device else maker) ≡ maker_device p b j
+    go : (j : ℕ) (t : Bool) → eqb (j % 2) 0 ≡ t → (if t then device otherwise maker) ≡ maker_device p b j
     go j true e =
         let z : j % 2 ≡ 0 = eqb-true (j % 2) 0 e in
         ed ∙ sym (rw (ne_eqb ((get_or b 3 0 + j) % 2) 0 (λ q. h (omega arith))))

@@ -6,7 +6,7 @@ use Prim.Native.Nat.{ℕ, min}
 use native.Mathlib.Omega.{arith}
 use lib.ListN.{length, take}
 use borrow.Author.Tests.{not-false, ne_eqb}
-use Rattle.lists.specs.Choice.{if◌then◌else◌}
+use Rattle.lists.specs.Choice.{if◌then◌otherwise◌}
 use Rattle.lists.specs.declared.Found.{Found}
 use Rattle.lists.specs.declared.Found.TheVariants.{At, Nothing}
 use Rattle.lists.proofs.Search.{first_none}
@@ -56,10 +56,10 @@ fewer part al m t k h =
 module _ (part : ℕ) (kept : Kept) (m : Meter) (l t : List ℕ) (k : ℕ) where
   pub replay_served_lem : (s : State) → (replay_refusal part (length l) kept m t).number ≡ 0 → s ≡ play (part_of part) (take k (recs_of t)) (state (regs_of kept) l m)
       → replay_seen (replay_told kept m (Ended (record { regs = kept_of s.regs; meter = s.meter }))) s.array ≡ replay_first_of part kept m l t k
-  unfolding replay_first_of replay_served if◌then◌else◌
+  unfolding replay_first_of replay_served if◌then◌otherwise◌
   replay_served_lem s e f =
       ap (λ (w : State). replay_seen (replay_told kept m (Ended (record { regs = kept_of w.regs; meter = w.meter }))) w.array) f ∙ sym (rw e)
 
   pub replay_refused_lem : (z : Refusal) → z ≡ replay_refusal part (length l) kept m t → (z.number ≡ 0 → ⊥) → replay_seen (replay_told kept m (Refused z)) l ≡ replay_first_of part kept m l t k
-  unfolding replay_first_of replay_refused if◌then◌else◌
+  unfolding replay_first_of replay_refused if◌then◌otherwise◌
   replay_refused_lem z e h = rw (← e, ne_eqb z.number 0 h)

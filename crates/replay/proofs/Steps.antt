@@ -7,7 +7,7 @@ use native.Mathlib.Omega.{arith}
 use native.Mathlib.Numerals.{add-one}
 use lib.ListN.{take}
 use lib.Dec.{eqb}
-use Rattle.lists.specs.Choice.{if◌then◌else◌}
+use Rattle.lists.specs.Choice.{if◌then◌otherwise◌}
 use Rattle.rules.specs.declared.AtPlace.{AtPlace}
 use Rattle.rules.specs.declared.AtPlace.TheVariants.{Transaction, Finish, PowerCycle}
 use Rattle.rules.specs.declared.Sent.{Sent}
@@ -105,10 +105,10 @@ said_played p t k s f e =
 
 -- a transaction lies where its record says
 pub said_sent : (t : List ℕ) (p : ℕ) (s : Sent) → Transaction s ≡ said_at t p → s ≡ sent_at t p
-unfolding said_at if◌then◌else◌
+unfolding said_at if◌then◌otherwise◌
 said_sent t p s e = go (eqb (kind_at t p) 0) (eqb (kind_at t p) 1) e
   where
-    go : (a b : Bool) → Transaction s ≡ (if a then Transaction (sent_at t p) else if b then Finish else PowerCycle) → s ≡ sent_at t p
+    go : (a b : Bool) → Transaction s ≡ (if a then Transaction (sent_at t p) otherwise if b then Finish otherwise PowerCycle) → s ≡ sent_at t p
     go true b q = cc
     go false true q = let z : ◌≡◌ {A = ℕ} 0 1 = cc in absurd (omega arith)
     go false false q = let z : ◌≡◌ {A = ℕ} 0 1 = cc in absurd (omega arith)

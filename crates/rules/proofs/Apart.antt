@@ -4,7 +4,7 @@ use mathlib.Core.Bool.{Bool, true, false}
 use Prim.Native.Nat.{ℕ}
 use native.Mathlib.Omega.{arith}
 use borrow.Author.Tests.{ne_eqb}
-use Rattle.lists.specs.Choice.{if◌then◌else◌, ◌=?◌}
+use Rattle.lists.specs.Choice.{if◌then◌otherwise◌, ◌=?◌}
 use Rattle.rules.specs.declared.EraseUnit.TheVariants.{Sector, Block32, Block64, Chip}
 use Rattle.rules.specs.declared.Write.TheVariants.{Program, Erase, WriteStatus}
 use Rattle.rules.specs.declared.Kind.{Kind}
@@ -45,7 +45,7 @@ apart told back h a b e = sym (h a) ∙ ap back e ∙ h b
 
 -- the code of a kind says that kind to the FM25Q16
 pub code_back : (k : Kind) → command_by (row_in fm_commands (code_of k)) ≡ Known k
-unfolding row_in fm_commands if◌then◌else◌
+unfolding row_in fm_commands if◌then◌otherwise◌
 code_back WriteEnable = refl
 code_back WriteDisable = refl
 code_back ReadStatusLow = refl
@@ -74,7 +74,7 @@ pub kinds_apart : (k j : Kind) → code_of k ≡ code_of j → k ≡ j
 kinds_apart = apart code_of kind_back kind_back_lem
 
 zero_unknown : command_by (row_in fm_commands 0) ≡ Unknown
-unfolding row_in fm_commands if◌then◌else◌
+unfolding row_in fm_commands if◌then◌otherwise◌
 zero_unknown = refl
 
 -- no kind has the code 0
@@ -85,10 +85,10 @@ coded k e =
     omega arith
 
 verdict_back : VerdictTold → Verdict
-verdict_back t = if t.code =? 0 then ignored t.number else CarriedOut (kind_back t.code)
+verdict_back t = if t.code =? 0 then ignored t.number otherwise CarriedOut (kind_back t.code)
 
 verdict_back_lem : (v : Verdict) → verdict_back (verdict_told v) ≡ v
-unfolding verdict_back if◌then◌else◌
+unfolding verdict_back if◌then◌otherwise◌
 verdict_back_lem (CarriedOut k) = rw (ne_eqb (code_of k) 0 (coded k), kind_back_lem k)
 verdict_back_lem (Ignored w) = refl
 
@@ -101,10 +101,10 @@ transacted_back : AnswerTold → Transacted
 transacted_back t =
     if t.served
     then Tr.Stepped (record { verdict = verdict_back (record { number = t.number; code = t.code }); regs = t.regs; meter = t.meter })
-    else Tr.Refused (record { number = t.number; index = t.index })
+    otherwise Tr.Refused (record { number = t.number; index = t.index })
 
 transacted_back_lem : (kept : Kept) (m : Meter) (a : Transacted) → transacted_back (transact_told kept m a) ≡ a
-unfolding transacted_back if◌then◌else◌
+unfolding transacted_back if◌then◌otherwise◌
 transacted_back_lem kept m (Tr.Stepped s) = λ i. Tr.Stepped (record { verdict = verdict_back_lem s.verdict i; regs = s.regs; meter = s.meter })
 transacted_back_lem kept m (Tr.Refused z) = refl
 
@@ -112,10 +112,10 @@ pub transacted_apart : (kept : Kept) (m : Meter) (a b : Transacted) → transact
 transacted_apart kept m = apart (transact_told kept m) transacted_back (transacted_back_lem kept m)
 
 event_back : EventTold → Event
-event_back t = if t.served then Ev.Passed t.regs else Ev.Refused (record { number = t.number; index = t.index })
+event_back t = if t.served then Ev.Passed t.regs otherwise Ev.Refused (record { number = t.number; index = t.index })
 
 event_back_lem : (kept : Kept) (a : Event) → event_back (event_told kept a) ≡ a
-unfolding event_back if◌then◌else◌
+unfolding event_back if◌then◌otherwise◌
 event_back_lem kept (Ev.Passed k) = refl
 event_back_lem kept (Ev.Refused z) = refl
 
@@ -126,10 +126,10 @@ replayed_back : AnswerTold → Replayed
 replayed_back t =
     if t.served
     then Re.Ended (record { regs = t.regs; meter = t.meter })
-    else Re.Refused (record { number = t.number; index = t.index })
+    otherwise Re.Refused (record { number = t.number; index = t.index })
 
 replayed_back_lem : (kept : Kept) (m : Meter) (a : Replayed) → replayed_back (replay_told kept m a) ≡ a
-unfolding replayed_back if◌then◌else◌
+unfolding replayed_back if◌then◌otherwise◌
 replayed_back_lem kept m (Re.Ended s) = refl
 replayed_back_lem kept m (Re.Refused z) = refl
 
@@ -137,10 +137,10 @@ pub replayed_apart : (kept : Kept) (m : Meter) (a b : Replayed) → replay_told 
 replayed_apart kept m = apart (replay_told kept m) replayed_back (replayed_back_lem kept m)
 
 translated_back : TapeTold → Translated
-translated_back t = if t.served then Tl.Written t.length else Tl.Refused (record { number = t.number; index = t.index })
+translated_back t = if t.served then Tl.Written t.length otherwise Tl.Refused (record { number = t.number; index = t.index })
 
 translated_back_lem : (a : Translated) → translated_back (translate_told a) ≡ a
-unfolding translated_back if◌then◌else◌
+unfolding translated_back if◌then◌otherwise◌
 translated_back_lem (Tl.Written n) = refl
 translated_back_lem (Tl.Refused z) = refl
 
@@ -148,10 +148,10 @@ pub translated_apart : (a b : Translated) → translate_told a ≡ translate_tol
 translated_apart = apart translate_told translated_back translated_back_lem
 
 quoted_back : BillTold → Quoted
-quoted_back t = if t.served then Qu.Billed t.bill else Qu.Refused (record { number = t.number; index = t.index })
+quoted_back t = if t.served then Qu.Billed t.bill otherwise Qu.Refused (record { number = t.number; index = t.index })
 
 quoted_back_lem : (a : Quoted) → quoted_back (quote_told a) ≡ a
-unfolding quoted_back if◌then◌else◌
+unfolding quoted_back if◌then◌otherwise◌
 quoted_back_lem (Qu.Billed b) = refl
 quoted_back_lem (Qu.Refused z) = refl
 
@@ -166,14 +166,14 @@ flag_back false = refl
 
 read_back : ReadTold → AtPlace
 read_back t =
-    if t.kind =? 0 then Transaction (record { start = t.start; length = t.length; leftover = t.leftover; high = t.wp =? 1 }) else
-    if t.kind =? 1 then Finish else
-    if t.kind =? 2 then PowerCycle else
-    if t.kind =? 3 then End else
+    if t.kind =? 0 then Transaction (record { start = t.start; length = t.length; leftover = t.leftover; high = t.wp =? 1 }) otherwise
+    if t.kind =? 1 then Finish otherwise
+    if t.kind =? 2 then PowerCycle otherwise
+    if t.kind =? 3 then End otherwise
     Fault t.number
 
 read_back_lem : (p : ℕ) (a : AtPlace) → read_back (read_told p a) ≡ a
-unfolding read_back if◌then◌else◌
+unfolding read_back if◌then◌otherwise◌
 read_back_lem p (Transaction s) = λ i. Transaction (record { start = s.start; length = s.length; leftover = s.leftover; high = flag_back s.high i })
 read_back_lem p Finish = refl
 read_back_lem p PowerCycle = refl

@@ -6,7 +6,7 @@ use Prim.Native.Nat.{ℕ, ◌<◌}
 use native.Mathlib.Omega.{arith}
 use borrow.Author.Tests.{ltb-true}
 use lib.ListN.{length, get_or, length-set, length-replicate}
-use Rattle.lists.specs.Choice.{if◌then◌else◌, ◌<?◌}
+use Rattle.lists.specs.Choice.{if◌then◌otherwise◌, ◌<?◌}
 use Rattle.lists.proofs.Patched.{patched_below}
 use Rattle.rules.specs.declared.EraseUnit.TheVariants.{Sector, Block32, Block64, Chip}
 use Rattle.rules.specs.declared.Write.TheVariants.{Program, Erase, WriteStatus}
@@ -66,14 +66,14 @@ below l b (CarriedOut (Writes WriteStatus)) long y h = refl
 
 look_by : ℕ → List ℕ → List ℕ → List Fact → List Fact
 look_by from l after [] = []
-look_by from l after (f ∷ fs) = holds f.place (if f.place <? from then get_or l f.place 0 else get_or after f.place 0) ∷ look_by from l after fs
+look_by from l after (f ∷ fs) = holds f.place (if f.place <? from then get_or l f.place 0 otherwise get_or after f.place 0) ∷ look_by from l after fs
 
 look_by_lem : (from : ℕ) (l after : List ℕ) → ((y : ℕ) → y < from → get_or after y 0 ≡ get_or l y 0) → (fs : List Fact) → look_at after fs ≡ look_by from l after fs
-unfolding look_at look_by if◌then◌else◌
+unfolding look_at look_by if◌then◌otherwise◌
 look_by_lem from l after h [] = refl
 look_by_lem from l after h (f ∷ fs) = λ i. holds f.place (go (f.place <? from) refl i) ∷ look_by_lem from l after h fs i
   where
-    go : (t : Bool) → (f.place <? from) ≡ t → get_or after f.place 0 ≡ (if t then get_or l f.place 0 else get_or after f.place 0)
+    go : (t : Bool) → (f.place <? from) ≡ t → get_or after f.place 0 ≡ (if t then get_or l f.place 0 otherwise get_or after f.place 0)
     go true e = h f.place (ltb-true f.place from e)
     go false e = refl
 
@@ -89,7 +89,7 @@ transacted_at n t =
     let z = transact_refusal 1 n t.start (length t.bytes) 0 (length (buffer t)) (counts 0 0 0 0) in
     if accepted z
     then transact_served t.start (counts 0 0 0 0) (buffer t) t.bytes (turn_at t)
-    else transact_refused t.start (counts 0 0 0 0) (array_at t) (buffer t) z
+    otherwise transact_refused t.start (counts 0 0 0 0) (array_at t) (buffer t) z
 
 observed_at : ℕ → Reading → Seen
 observed_at n t =
@@ -106,14 +106,14 @@ observed_at n t =
     }
 
 stays : (n : ℕ) (t : Reading) (y : ℕ) → y < changed_from t.bytes (turn_at t).verdict → get_or (transacted_at n t).array y 0 ≡ get_or (array_at t) y 0
-unfolding transacted_at transact_served transact_refused turn_at turn_of array_at if◌then◌else◌
+unfolding transacted_at transact_served transact_refused turn_at turn_of array_at if◌then◌otherwise◌
 stays n t y h = go (accepted (transact_refusal 1 n t.start (length t.bytes) 0 (length (buffer t)) (counts 0 0 0 0)))
   where
     go : (u : Bool)
         → get_or
         (if u
         then transact_served t.start (counts 0 0 0 0) (buffer t) t.bytes (turn_at t)
-        else transact_refused t.start (counts 0 0 0 0) (array_at t) (buffer t) (transact_refusal 1 n t.start (length t.bytes) 0 (length (buffer t)) (counts 0 0 0 0))).array
+        otherwise transact_refused t.start (counts 0 0 0 0) (array_at t) (buffer t) (transact_refusal 1 n t.start (length t.bytes) 0 (length (buffer t)) (counts 0 0 0 0))).array
         y 0
         ≡ get_or (array_at t) y 0
     go true = below (array_at t) t.bytes (turn_at t).verdict (stored-length t.facts 2097152) y h
@@ -140,7 +140,7 @@ each [] = refl
 each (t ∷ ts) = λ i. observed_at_lem t i ∷ each ts i
 
 computed : map (observed_at 2097152) readings ≡ map (λ t. t.expected) readings
-unfolding observed_at transacted_at turn_at look_by readings seen_of look_at finishing array_at stored blank transact_served transact_refused transact_refusal is_part part_of fm25q16 fm_commands fm_heard_asleep fm_heard_busy fm_sec0 fm_sec1 fm_area fm_lo fm_hi takes leaves row_in row_of regs_of status_of kept_of low_byte high_byte word_formed awake_formed well_formed is_protected first_protected some_protected cell programmed erased locked fm_first fm_second fm_status_written address_of unheard_asleep unheard_busy verdict_of from_place turn_of room finished event_refusal event_of finish_of of_write of_known if◌then◌else◌ tabulate_from tabulate patched first_in
+unfolding observed_at transacted_at turn_at look_by readings seen_of look_at finishing array_at stored blank transact_served transact_refused transact_refusal is_part part_of fm25q16 fm_commands fm_heard_asleep fm_heard_busy fm_sec0 fm_sec1 fm_area fm_lo fm_hi takes leaves row_in row_of regs_of status_of kept_of low_byte high_byte word_formed awake_formed well_formed is_protected first_protected some_protected cell programmed erased locked fm_first fm_second fm_status_written address_of unheard_asleep unheard_busy verdict_of from_place turn_of room finished event_refusal event_of finish_of of_write of_known if◌then◌otherwise◌ tabulate_from tabulate patched first_in
 computed = refl
 
 pub bench : map observed readings ≡ map (λ t. t.expected) readings

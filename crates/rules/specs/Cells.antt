@@ -1,7 +1,7 @@
 -- What a program and an erase make of the array. Document 01, "Program".
 use Rattle.std.specs.Prelude.{ℕ, suc, ◌+◌, ◌%◌, List, [], ◌∷◌, get_or}
 use Rattle.std.specs.Int.Bits.{bit_and}
-use Rattle.lists.specs.Choice.{if◌then◌else◌, ◌=?◌}
+use Rattle.lists.specs.Choice.{if◌then◌otherwise◌, ◌=?◌}
 use Rattle.lists.specs.Places.{patched}
 use Rattle.rules.specs.Units.{page, page_start, unit_start, unit_length}
 use Rattle.rules.specs.declared.EraseUnit.{EraseUnit}
@@ -10,7 +10,7 @@ use Rattle.rules.specs.declared.EraseUnit.{EraseUnit}
 -- the page: where a place is sent twice, the last counts; each place sent becomes old AND new; any other keeps `kept`.
 unfoldable pub cell : ℕ → List ℕ → ℕ → ℕ → ℕ → ℕ
 cell off [] j old kept = kept
-cell off (b ∷ bs) j old kept = cell (suc off) bs j old (if off % page =? j then bit_and old b else kept)
+cell off (b ∷ bs) j old kept = cell (suc off) bs j old (if off % page =? j then bit_and old b otherwise kept)
 
 -- the data bs go to the page of address a, beginning at its offset; no other byte changes
 unfoldable pub programmed : List ℕ → ℕ → List ℕ → List ℕ

@@ -1,7 +1,7 @@
 -- The entry `count`: the meter by itself, brought up to date by what a transaction answered. Document 01: above the core "the
 -- meter is also offered as a record brought up to date where it lies".
 use Rattle.std.specs.Prelude.{ℕ, not, ◌&&◌}
-use Rattle.lists.specs.Choice.{if◌then◌else◌, ◌=?◌, ◌≤?◌}
+use Rattle.lists.specs.Choice.{if◌then◌otherwise◌, ◌=?◌, ◌≤?◌}
 use Rattle.rules.specs.declared.Meter.{Meter}
 use Rattle.rules.specs.declared.Metered.{Metered}
 use Rattle.rules.specs.declared.Verdict.TheVariants.{CarriedOut}
@@ -14,8 +14,8 @@ use Rattle.rules.specs.Counts.{ignored_counted, meter_after, room}
 -- other number counts nothing
 unfoldable pub meter_by_answer : (p : Part) (meter : Meter) (number op : ℕ) → Meter
 meter_by_answer p meter number op =
-    if number =? 0 then of_known (command_of p op) meter (λ k. meter_after meter (CarriedOut k)) else
-    if (10 ≤? number) && (number ≤? 16) then ignored_counted meter else
+    if number =? 0 then of_known (command_of p op) meter (λ k. meter_after meter (CarriedOut k)) otherwise
+    if (10 ≤? number) && (number ≤? 16) then ignored_counted meter otherwise
     meter
 
 abbrev pub metered : (number : ℕ) (meter : Meter) → Metered
@@ -24,6 +24,6 @@ metered number meter = record { number = number; meter = meter }
 -- refused with 1 or 7, and then the meter stays
 unfoldable pub count_of : (part : ℕ) (meter : Meter) (number op : ℕ) → Metered
 count_of part meter number op =
-    if not (is_part part) then metered 1 meter else
-    if not (room meter 1) then metered 7 meter else
+    if not (is_part part) then metered 1 meter otherwise
+    if not (room meter 1) then metered 7 meter otherwise
     metered 0 (meter_by_answer (part_of part) meter number op)

@@ -1,6 +1,6 @@
 -- The entries `finish` and `power_cycle`: nothing is lent, so the answer is all that a caller sees.
 use Rattle.std.specs.Prelude.{ℕ, Bool, true, false}
-use Rattle.lists.specs.Choice.{if◌then◌else◌}
+use Rattle.lists.specs.Choice.{if◌then◌otherwise◌}
 use Rattle.rules.specs.declared.Kept.{Kept}
 use Rattle.rules.specs.declared.Regs.{Regs}
 use Rattle.rules.specs.declared.Event.{Event}
@@ -24,7 +24,7 @@ event_told kept (Refused z) = record { served = false; number = z.number; index 
 unfoldable pub event_of : (part : ℕ) (kept : Kept) (makes : Regs → Regs) → EventTold
 event_of part kept makes =
     let z = event_refusal part kept in
-    if accepted z then event_told kept (Passed (kept_of (makes (regs_of kept)))) else event_told kept (Refused z)
+    if accepted z then event_told kept (Passed (kept_of (makes (regs_of kept)))) otherwise event_told kept (Refused z)
 
 unfoldable pub finish_of : (part : ℕ) (kept : Kept) → EventTold
 finish_of part kept = event_of part kept finished

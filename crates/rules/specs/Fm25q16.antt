@@ -1,6 +1,6 @@
 -- The FM25Q16 of source document 001: document 01's tables, line by line.
 use Rattle.std.specs.Prelude.{ℕ, ◌*◌, ◌-◌, ◌/◌, ◌%◌, Bool, true, ◌||◌, List, [], ◌∷◌, length, get_or}
-use Rattle.lists.specs.Choice.{if◌then◌else◌, ◌=?◌}
+use Rattle.lists.specs.Choice.{if◌then◌otherwise◌, ◌=?◌}
 use Rattle.rules.specs.declared.EraseUnit.{EraseUnit}
 use Rattle.rules.specs.declared.EraseUnit.TheVariants.{Sector, Block32, Block64, Chip}
 use Rattle.rules.specs.declared.Write.TheVariants.{Program, Erase, WriteStatus}
@@ -85,14 +85,14 @@ fm_sec s = s / 16 % 2
 
 -- how many bytes a setting protects
 unfoldable pub fm_area : ℕ → ℕ
-fm_area s = if fm_sec s =? 0 then get_or fm_sec0 (fm_bp s) 0 else get_or fm_sec1 (fm_bp s) 0
+fm_area s = if fm_sec s =? 0 then get_or fm_sec0 (fm_bp s) 0 otherwise get_or fm_sec1 (fm_bp s) 0
 
 -- the area lies at the top where TB is 0, at the bottom where TB is 1
 unfoldable pub fm_lo : ℕ → ℕ
-fm_lo s = if fm_tb s =? 0 then fm_size - fm_area s else 0
+fm_lo s = if fm_tb s =? 0 then fm_size - fm_area s otherwise 0
 
 unfoldable pub fm_hi : ℕ → ℕ
-fm_hi s = if fm_tb s =? 0 then fm_size else fm_area s
+fm_hi s = if fm_tb s =? 0 then fm_size otherwise fm_area s
 
 -- 01, "Write status": "the first byte's bits 7 to 2 go to S7 to S2"
 unfoldable pub fm_first : Regs → ℕ → Regs
@@ -105,7 +105,7 @@ fm_second r b = with_qe (with_srp1 r (bit0 b)) (bit_at 2 b)
 -- .. "a one-byte write keeps S9 and S8"; b are the bytes of the transaction, 01 first
 unfoldable pub fm_status_written : Regs → List ℕ → Regs
 fm_status_written r b =
-    if length b =? 3 then fm_second (fm_first r (get_or b 1 0)) (get_or b 2 0) else fm_first r (get_or b 1 0)
+    if length b =? 3 then fm_second (fm_first r (get_or b 1 0)) (get_or b 2 0) otherwise fm_first r (get_or b 1 0)
 
 -- 01, "Jobs and tapes": a guard is 01, "four times the setting, 00"
 unfoldable pub fm_guard_bytes : ℕ → List ℕ

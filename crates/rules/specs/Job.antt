@@ -1,7 +1,7 @@
 -- A job's bytes, step by step, and what the steps mean. Document 01, "Jobs and tapes".
 use Rattle.std.specs.Prelude.{ℕ, zero, suc, ◌+◌, ◌*◌, ◌/◌, Bool, false, not, ◌&&◌, List, [], ◌∷◌, length, get_or, take, drop}
 use Rattle.std.specs.Int.Bits.{bit_and}
-use Rattle.lists.specs.Choice.{if◌then◌else◌, ◌=?◌, ◌≤?◌}
+use Rattle.lists.specs.Choice.{if◌then◌otherwise◌, ◌=?◌, ◌≤?◌}
 use Rattle.lists.specs.Places.{patched, every_in}
 use Rattle.rules.specs.declared.EraseUnit.{EraseUnit}
 use Rattle.rules.specs.declared.EraseUnit.TheVariants.{Sector, Block32, Block64, Chip}
@@ -37,9 +37,9 @@ zeros job a n = every_in (is_zero job) a n
 -- "byte 1 is 0, 1, 2 for 4, 32, 64 KB or 3 for all"
 unfoldable pub unit_by : ℕ → EraseUnit
 unit_by n =
-    if n =? 0 then Sector else
-    if n =? 1 then Block32 else
-    if n =? 2 then Block64 else
+    if n =? 0 then Sector otherwise
+    if n =? 1 then Block32 otherwise
+    if n =? 2 then Block64 otherwise
     Chip
 
 -- "1 erase: .. bytes 4 to 7 address; the rest 0"
@@ -47,27 +47,27 @@ unfoldable pub decoded_erase : List ℕ → ℕ → Decoded
 decoded_erase job a =
     if (get_or job (a + 1) 0 ≤? 3) && zeros job (a + 8) 8
     then Good (EraseAt (unit_by (get_or job (a + 1) 0)) (number4 job (a + 4)))
-    else Bad
+    otherwise Bad
 
 -- "2 lay: byte 1 is 0; address in 4 to 7, length in 8 to 11, payload offset in 12 to 15"
 unfoldable pub decoded_lay : List ℕ → ℕ → Decoded
 decoded_lay job a =
     if get_or job (a + 1) 0 =? 0
     then Good (Lay (record { address = number4 job (a + 4); length = number4 job (a + 8); offset = number4 job (a + 12) }))
-    else Bad
+    otherwise Bad
 
 -- "3 guard: byte 1 is a setting 0 to 31; the rest 0"
 unfoldable pub decoded_guard : List ℕ → ℕ → Decoded
 decoded_guard job a =
-    if (get_or job (a + 1) 0 ≤? guard_limit) && zeros job (a + 4) 12 then Good (Guard (get_or job (a + 1) 0)) else Bad
+    if (get_or job (a + 1) 0 ≤? guard_limit) && zeros job (a + 4) 12 then Good (Guard (get_or job (a + 1) 0)) otherwise Bad
 
 -- "byte 0 is the kind, bytes 2 and 3 are 0"; Bad is refusal 22
 unfoldable pub decoded_at : List ℕ → ℕ → Decoded
 decoded_at job a =
-    if not (zeros job (a + 2) 2) then Bad else
-    if get_or job a 0 =? 1 then decoded_erase job a else
-    if get_or job a 0 =? 2 then decoded_lay job a else
-    if get_or job a 0 =? 3 then decoded_guard job a else
+    if not (zeros job (a + 2) 2) then Bad otherwise
+    if get_or job a 0 =? 1 then decoded_erase job a otherwise
+    if get_or job a 0 =? 2 then decoded_lay job a otherwise
+    if get_or job a 0 =? 3 then decoded_guard job a otherwise
     Bad
 
 -- step i of a job
@@ -115,7 +115,7 @@ setting_meant s (Guard g) = g
 
 -- what a guard makes of S7, S8 and S9
 abbrev pub cleared : Part → Bool → Bool
-cleared p b = if p.guard_clears then false else b
+cleared p b = if p.guard_clears then false otherwise b
 
 -- "this setting, and S7, S8, S9 become 0", on a chip whose guard clears them
 abbrev pub guarded : Part → Regs → ℕ → Regs

@@ -1,6 +1,6 @@
 -- When a job is refused. Document 01, refusals 20 to 25, "each step in order".
 use Rattle.std.specs.Prelude.{ℕ, zero, suc, ◌+◌, ◌%◌, Bool, false, not, ◌||◌, List, length}
-use Rattle.lists.specs.Choice.{if◌then◌else◌, ◌=?◌, ◌<?◌, ◌≤?◌}
+use Rattle.lists.specs.Choice.{if◌then◌otherwise◌, ◌=?◌, ◌<?◌, ◌≤?◌}
 use Rattle.lists.specs.declared.Found.{Found}
 use Rattle.lists.specs.declared.Found.TheVariants.{At, Nothing}
 use Rattle.rules.specs.declared.EraseUnit.{EraseUnit}
@@ -76,8 +76,8 @@ shielded i Nothing = refusal 0
 -- 23 to 25 for step i, at setting s
 unfoldable pub step_refusal : (p : Part) (s payload_length i : ℕ) → Step → Refusal
 step_refusal p s payload_length i w =
-    if outside p w then refusal_at 23 i else
-    if beyond payload_length w then refusal_at 24 i else
+    if outside p w then refusal_at 23 i otherwise
+    if beyond payload_length w then refusal_at 24 i otherwise
     shielded i (first_shielded p s w)
 
 -- 22 to 25
@@ -100,7 +100,7 @@ steps_refusal p s payload_length job i (suc n) =
 -- "checks 1, 20, 21, then each step in order for 22 to 25"
 unfoldable pub job_refusal : (part setting : ℕ) (job : List ℕ) (payload_length : ℕ) → Refusal
 job_refusal part setting job payload_length =
-    if not (is_part part) then refusal 1 else
-    if unfit job payload_length then refusal 20 else
-    if (part_of part).setting_limit <? setting then refusal 21 else
+    if not (is_part part) then refusal 1 otherwise
+    if unfit job payload_length then refusal 20 otherwise
+    if (part_of part).setting_limit <? setting then refusal 21 otherwise
     steps_refusal (part_of part) setting payload_length job 0 (step_count job)

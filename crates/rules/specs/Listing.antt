@@ -1,6 +1,6 @@
 -- The lines of the listing program. Document 01, "The listing program".
 use Rattle.std.specs.Prelude.{ℕ, zero, suc, ◌+◌, ◌/◌, ◌%◌, not, ◌||◌, List, [], ◌∷◌, ◌++◌, length, get_or}
-use Rattle.lists.specs.Choice.{if◌then◌else◌, ◌=?◌, ◌<?◌}
+use Rattle.lists.specs.Choice.{if◌then◌otherwise◌, ◌=?◌, ◌<?◌}
 use Rattle.lists.specs.declared.Found.{Found}
 use Rattle.lists.specs.declared.Found.TheVariants.{At, Nothing}
 use Rattle.rules.specs.declared.AtPlace.{AtPlace}
@@ -27,7 +27,7 @@ digits4 n = digit (n / 1000) ∷ digits3 n
 
 -- "upper-case hex"
 abbrev pub hex_digit : ℕ → ℕ
-hex_digit n = if n <? 10 then 0x30 + n else 0x37 + n
+hex_digit n = if n <? 10 then 0x30 + n otherwise 0x37 + n
 
 abbrev pub hex2 : ℕ → List ℕ
 hex2 n = hex_digit (n / 16 % 16) ∷ hex_digit (n % 16) ∷ []
@@ -43,7 +43,7 @@ line_feed = 0x0A
 -- "T with command and length"; "no whole byte prints as T -- 000"
 abbrev pub transaction_text : List ℕ → Sent → List ℕ
 transaction_text t s =
-    0x54 ∷ space ∷ (if s.length =? 0 then 0x2D ∷ 0x2D ∷ [] else hex2 (get_or t s.start 0)) ++ space ∷ digits3 s.length
+    0x54 ∷ space ∷ (if s.length =? 0 then 0x2D ∷ 0x2D ∷ [] otherwise hex2 (get_or t s.start 0)) ++ space ∷ digits3 s.length
 
 -- "T .., F, or P"
 abbrev pub record_text : List ℕ → AtPlace → List ℕ
@@ -73,4 +73,4 @@ listed t (At i) = refused_line 31 i
 listed t Nothing = lines_from t 0 (records t)
 
 unfoldable pub listing_of : (tape : List ℕ) → List ℕ
-listing_of tape = if (listing_limit <? length tape) || not (whole tape) then refused_line 30 0 else listed tape (first_bad tape)
+listing_of tape = if (listing_limit <? length tape) || not (whole tape) then refused_line 30 0 otherwise listed tape (first_bad tape)

@@ -1,6 +1,6 @@
 -- A chip is a value: what the rules ask of it, and nothing else, stands in its description.
 use Rattle.std.specs.Prelude.{ℕ, Bool, true, false, ◌&&◌, ◌||◌, List, [], ◌∷◌}
-use Rattle.lists.specs.Choice.{if◌then◌else◌, ◌=?◌, ◌≤?◌}
+use Rattle.lists.specs.Choice.{if◌then◌otherwise◌, ◌=?◌, ◌≤?◌}
 use Rattle.rules.specs.declared.EraseUnit.{EraseUnit}
 use Rattle.rules.specs.declared.Regs.{Regs}
 use Rattle.rules.specs.declared.Kind.{Kind}
@@ -49,7 +49,7 @@ row c k b x = record { code = c; kind = k; bytes = b; leftover = x }
 
 unfoldable pub row_in : List Row → ℕ → Listed
 row_in [] op = Unlisted
-row_in (w ∷ ws) op = if op =? w.code then Line w else row_in ws op
+row_in (w ∷ ws) op = if op =? w.code then Line w otherwise row_in ws op
 
 -- the row of a code
 unfoldable pub row_of : Part → ℕ → Listed

@@ -1,6 +1,6 @@
 -- A tape read at a place: the entry `read`. Document 01, "A tape is read through a reader that keeps hold of the caller's bytes and its place".
 use Rattle.std.specs.Prelude.{ℕ, ◌+◌, not, List}
-use Rattle.lists.specs.Choice.{if◌then◌else◌, ◌=?◌, ◌≤?◌}
+use Rattle.lists.specs.Choice.{if◌then◌otherwise◌, ◌=?◌, ◌≤?◌}
 use Rattle.rules.specs.declared.AtPlace.{AtPlace}
 use Rattle.rules.specs.declared.AtPlace.TheVariants.{Transaction, Finish, PowerCycle, End, Fault}
 use Rattle.rules.specs.declared.Sent.{Sent}
@@ -15,11 +15,11 @@ sent_at t p = record { start = bytes_start p; length = length_at t p; leftover =
 -- the record
 unfoldable pub read_at : List ℕ → ℕ → AtPlace
 read_at t p =
-    if not (whole t) then Fault 30 else
-    if records t ≤? p then End else
-    if not (good_record t p) then Fault 31 else
-    if kind_at t p =? 0 then Transaction (sent_at t p) else
-    if kind_at t p =? 1 then Finish else
+    if not (whole t) then Fault 30 otherwise
+    if records t ≤? p then End otherwise
+    if not (good_record t p) then Fault 31 otherwise
+    if kind_at t p =? 0 then Transaction (sent_at t p) otherwise
+    if kind_at t p =? 1 then Finish otherwise
     PowerCycle
 
 -- "a record moves the place by one, the end and a fault leave it"

@@ -1,6 +1,6 @@
 -- The entries `replay` and `replay_first`: their one answer, and the array at exit.
 use Rattle.std.specs.Prelude.{ℕ, true, false, not, List, length, take}
-use Rattle.lists.specs.Choice.{if◌then◌else◌, ◌=?◌}
+use Rattle.lists.specs.Choice.{if◌then◌otherwise◌, ◌=?◌}
 use Rattle.lists.specs.declared.Found.{Found}
 use Rattle.lists.specs.declared.Found.TheVariants.{At, Nothing}
 use Rattle.rules.specs.declared.Kept.{Kept}
@@ -26,16 +26,16 @@ bad_record Nothing = refusal 0
 unfoldable pub records_refusal : (meter : Meter) (tape : List ℕ) → Refusal
 records_refusal meter tape =
     bad_record (first_bad tape) or_else
-    if not (room meter (records tape)) then refusal 7 else
+    if not (room meter (records tape)) then refusal 7 otherwise
     refusal 0
 
 -- "replay checks 1, 2, 3, 30, 31, 7, all before its first record"
 unfoldable pub replay_refusal : (part array_length : ℕ) (kept : Kept) (meter : Meter) (tape : List ℕ) → Refusal
 replay_refusal part array_length kept meter tape =
-    if not (is_part part) then refusal 1 else
-    if not (array_length =? (part_of part).size) then refusal 2 else
-    if not (well_formed (part_of part) kept) then refusal 3 else
-    if not (whole tape) then refusal 30 else
+    if not (is_part part) then refusal 1 otherwise
+    if not (array_length =? (part_of part).size) then refusal 2 otherwise
+    if not (well_formed (part_of part) kept) then refusal 3 otherwise
+    if not (whole tape) then refusal 30 otherwise
     records_refusal meter tape
 
 -- a tape that was played to its end, or to the record asked for
@@ -67,7 +67,7 @@ replay_first_of part kept meter array tape k =
     let z = replay_refusal part (length array) kept meter tape in
     if accepted z
     then replay_served kept meter (play (part_of part) (take k (recs_of tape)) (state (regs_of kept) array meter))
-    else replay_refused kept meter array z
+    otherwise replay_refused kept meter array z
 
 -- all of them
 unfoldable pub replay_of : (part : ℕ) (kept : Kept) (meter : Meter) (array tape : List ℕ) → ReplaySeen

@@ -1,6 +1,6 @@
 -- The format of a tape: its bytes, record by record. Document 01, "Jobs and tapes" and refusals 30 and 31.
 use Rattle.std.specs.Prelude.{ℕ, zero, suc, ◌+◌, ◌-◌, ◌*◌, ◌/◌, ◌%◌, Bool, not, ◌&&◌, ◌||◌, List, [], ◌∷◌, ◌++◌, length, get_or, take, drop, replicate}
-use Rattle.lists.specs.Choice.{if◌then◌else◌, ◌=?◌, ◌≤?◌}
+use Rattle.lists.specs.Choice.{if◌then◌otherwise◌, ◌=?◌, ◌≤?◌}
 use Rattle.lists.specs.Places.{every_in, first_in}
 use Rattle.lists.specs.declared.Found.{Found}
 use Rattle.rules.specs.Status.{flag}
@@ -51,8 +51,8 @@ high_of bits = 8 ≤? bits
 -- what record p says, of a tape that 30 and 31 let pass
 unfoldable pub rec_at : List ℕ → ℕ → Rec
 rec_at t p =
-    if kind_at t p =? 0 then transaction (take (length_at t p) (drop (bytes_start p) t)) (leftover_of (bits_at t p)) (high_of (bits_at t p)) else
-    if kind_at t p =? 1 then finish else
+    if kind_at t p =? 0 then transaction (take (length_at t p) (drop (bytes_start p) t)) (leftover_of (bits_at t p)) (high_of (bits_at t p)) otherwise
+    if kind_at t p =? 1 then finish otherwise
     power_cycle
 
 -- n records from record p on

@@ -1,6 +1,6 @@
 -- The entry `transact`: its one answer, and what is left of all that was lent.
 use Rattle.std.specs.Prelude.{ℕ, Bool, true, false, not, List, ◌++◌, length, drop}
-use Rattle.lists.specs.Choice.{if◌then◌else◌, ◌=?◌}
+use Rattle.lists.specs.Choice.{if◌then◌otherwise◌, ◌=?◌}
 use Rattle.rules.specs.declared.Kept.{Kept}
 use Rattle.rules.specs.declared.Meter.{Meter}
 use Rattle.rules.specs.declared.Refusal.{Refusal}
@@ -60,4 +60,4 @@ transact_of part kept meter array out bytes leftover wp =
     let z = transact_refusal part (length array) kept (length bytes) leftover (length out) meter in
     if accepted z
     then transact_served kept meter out bytes (turn_of (part_of part) (regs_of kept) array bytes leftover (is_high wp))
-    else transact_refused kept meter array out z
+    otherwise transact_refused kept meter array out z

@@ -1,7 +1,7 @@
 -- What a transaction does: the bytes out, the registers and the array. It knows no meter.
 -- Document 01, "What a transaction does".
 use Rattle.std.specs.Prelude.{ℕ, ◌+◌, ◌-◌, ◌%◌, Bool, true, false, List, length, get_or}
-use Rattle.lists.specs.Choice.{if◌then◌else◌, ◌=?◌, ◌≤?◌}
+use Rattle.lists.specs.Choice.{if◌then◌otherwise◌, ◌=?◌, ◌≤?◌}
 use Rattle.lists.specs.Places.{tabulate}
 use Rattle.rules.specs.declared.Regs.{Regs}
 use Rattle.rules.specs.declared.Kind.{Kind}
@@ -18,7 +18,7 @@ use Rattle.rules.specs.Verdict.{address_of, verdict_of}
 
 -- from place k on the bytes f 0, f 1, ..; FF where the chip drives nothing
 unfoldable pub from_place : ℕ → (ℕ → ℕ) → ℕ → ℕ
-from_place k f i = if k ≤? i then f (i - k) else 0xFF
+from_place k f i = if k ≤? i then f (i - k) otherwise 0xFF
 
 -- the array from address a on, wrapping at the end
 unfoldable pub array_from : Part → List ℕ → ℕ → ℕ → ℕ
@@ -26,7 +26,7 @@ array_from p l a j = get_or l ((a + j) % p.size) 0
 
 -- maker and device byte in turn, device first if the lowest address bit is 1
 unfoldable pub maker_device : Part → List ℕ → ℕ → ℕ
-maker_device p b j = if (get_or b 3 0 + j) % 2 =? 0 then p.maker else p.device
+maker_device p b j = if (get_or b 3 0 + j) % 2 =? 0 then p.maker otherwise p.device
 
 -- what a command that is carried out drives at place i
 abbrev pub driven_at : Part → Regs → List ℕ → List ℕ → Kind → ℕ → ℕ

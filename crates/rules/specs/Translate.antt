@@ -1,6 +1,6 @@
 -- The entries `translate` and `quote`: their one answer, and the tape at exit.
 use Rattle.std.specs.Prelude.{ℕ, Bool, true, false, List, ◌++◌, length, drop}
-use Rattle.lists.specs.Choice.{if◌then◌else◌, ◌<?◌}
+use Rattle.lists.specs.Choice.{if◌then◌otherwise◌, ◌<?◌}
 use Rattle.rules.specs.declared.Refusal.{Refusal}
 use Rattle.rules.specs.declared.Bill.{Bill}
 use Rattle.rules.specs.declared.Translated.{Translated}
@@ -26,7 +26,7 @@ tape_of p job payload = encode (job_recs p payload (steps_of job))
 unfoldable pub translate_refusal : (part setting : ℕ) (job payload : List ℕ) (buffer_length : ℕ) → Refusal
 translate_refusal part setting job payload buffer_length =
     job_refusal part setting job (length payload) or_else
-    if buffer_length <? length (tape_of (part_of part) job payload) then refusal 26 else
+    if buffer_length <? length (tape_of (part_of part) job payload) then refusal 26 otherwise
     refusal 0
 
 -- the paper's number and values
@@ -55,7 +55,7 @@ translate_of part setting job payload buffer =
     let tape = tape_of (part_of part) job payload in
     if accepted z
     then translate_seen (translate_told (T.Written (length tape))) (tape ++ drop (length tape) buffer)
-    else translate_seen (translate_told (T.Refused z)) buffer
+    otherwise translate_seen (translate_told (T.Refused z)) buffer
 
 -- ---- quote: the bill beforehand, with the refusals of translate but 26; nothing that is lent changes
 
@@ -72,4 +72,4 @@ quote_told (Q.Refused z) = record { served = false; number = z.number; index = z
 unfoldable pub quote_of : (part setting : ℕ) (job : List ℕ) (payload_length : ℕ) → BillTold
 quote_of part setting job payload_length =
     let z = job_refusal part setting job payload_length in
-    if accepted z then quote_told (Q.Billed (bill_of (steps_of job))) else quote_told (Q.Refused z)
+    if accepted z then quote_told (Q.Billed (bill_of (steps_of job))) otherwise quote_told (Q.Refused z)

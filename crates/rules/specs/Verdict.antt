@@ -1,6 +1,6 @@
 -- The verdict on a transaction. Document 01, "Verdicts, first that applies".
 use Rattle.std.specs.Prelude.{ℕ, ◌+◌, ◌*◌, ◌%◌, Bool, true, false, not, ◌&&◌, List, length, get_or}
-use Rattle.lists.specs.Choice.{if◌then◌else◌, ◌=?◌}
+use Rattle.lists.specs.Choice.{if◌then◌otherwise◌, ◌=?◌}
 use Rattle.rules.specs.declared.Regs.{Regs}
 use Rattle.rules.specs.declared.Command.{Command}
 use Rattle.rules.specs.declared.Command.TheVariants.{Known, Unknown}
@@ -65,14 +65,14 @@ unfoldable pub verdict_of : (p : Part) (r : Regs) (b : List ℕ) (x : ℕ) (high
 verdict_of p r b x high =
     let op = get_or b 0 0 in
     let c = command_of p op in
-    if no_whole_byte b then ignored 12 else
-    if unheard_asleep p r op then ignored 11 else
-    if unheard_busy p r op then ignored 10 else
-    if is_unknown c then ignored 12 else
-    if misshapen p op (length b) x then ignored 13 else
-    if not_enabled r c then ignored 14 else
-    if status_locked r high c then ignored 15 else
-    if touches_protected p r (address_of p b) c then ignored 16 else
+    if no_whole_byte b then ignored 12 otherwise
+    if unheard_asleep p r op then ignored 11 otherwise
+    if unheard_busy p r op then ignored 10 otherwise
+    if is_unknown c then ignored 12 otherwise
+    if misshapen p op (length b) x then ignored 13 otherwise
+    if not_enabled r c then ignored 14 otherwise
+    if status_locked r high c then ignored 15 otherwise
+    if touches_protected p r (address_of p b) c then ignored 16 otherwise
     carried_out c
 
 -- ---- the paper's number and values: 0 and the kind's code, or the number of an ignored command and no code

@@ -8,7 +8,7 @@ use native.Mathlib.Nat.{add-zero}
 use lib.ListN.{length, get_or, take, replicate, length-append, length-replicate, get_or-replicate, get_or-append}
 use lib.Seq.{get_or-append-add, get_or-drop, take-append_seam}
 use borrow.Author.Tests.{le-leb, lt-leb, eq-eqb}
-use Rattle.lists.specs.Choice.{if◌then◌else◌}
+use Rattle.lists.specs.Choice.{if◌then◌otherwise◌}
 use Rattle.lists.specs.Places.{every_in}
 use Rattle.lists.specs.declared.Found.TheVariants.{Nothing}
 use Rattle.lists.proofs.Search.{at_every, none_first}
@@ -32,7 +32,7 @@ bits_back x false h = record { small = omega arith; left = omega arith; level = 
 -- ---- one record
 
 rec_back : (pre rest : List ℕ) (k : ℕ) → length pre ≡ 264 * k → (r : Rec) → RecOk r → rec_at (pre ++ (encode_rec r ++ rest)) k ≡ r
-unfolding rec_at encode_rec if◌then◌else◌
+unfolding rec_at encode_rec if◌then◌otherwise◌
 rec_back pre rest k e (transaction b x high) (transaction_ok h g) =
     let l : List ℕ = encode_rec (transaction b x high) ++ rest in
     let n : length b / 256 * 256 + length b % 256 ≡ length b = omega arith in

@@ -7,7 +7,7 @@ use native.Mathlib.Omega.{arith}
 use lib.Dec.{eqb, leb}
 use lib.ListN.{length}
 use borrow.Author.Tests.{leb-false, lt-leb}
-use Rattle.lists.specs.Choice.{if◌then◌else◌}
+use Rattle.lists.specs.Choice.{if◌then◌otherwise◌}
 use Rattle.rules.specs.declared.AtPlace.{AtPlace}
 use Rattle.rules.specs.declared.AtPlace.TheVariants.{Transaction, Finish, PowerCycle, End, Fault}
 use Rattle.rules.specs.Tape.{finish, power_cycle, kind_at, rec_at, records, whole, good_record}
@@ -17,16 +17,16 @@ use Rattle.tape.specs.Record.{said_at, rec_of}
 
 -- a good record is read as what it says
 pub read_said : (t : List ℕ) (p : ℕ) → whole t ≡ true → p < records t → good_record t p ≡ true → read_at t p ≡ said_at t p
-unfolding read_at said_at if◌then◌else◌
+unfolding read_at said_at if◌then◌otherwise◌
 read_said t p w h g = rw (w, lt-leb (records t) p h, g)
 
 -- what is said is the record
 pub said_rec : (t : List ℕ) (p : ℕ) → rec_at t p ≡ rec_of t (said_at t p)
-unfolding said_at rec_at if◌then◌else◌
+unfolding said_at rec_at if◌then◌otherwise◌
 said_rec t p = go (eqb (kind_at t p) 0) (eqb (kind_at t p) 1)
   where
-    go : (a b : Bool) → (if a then rec_of t (Transaction (sent_at t p)) else if b then finish else power_cycle)
-        ≡ rec_of t (if a then Transaction (sent_at t p) else if b then Finish else PowerCycle)
+    go : (a b : Bool) → (if a then rec_of t (Transaction (sent_at t p)) otherwise if b then finish otherwise power_cycle)
+        ≡ rec_of t (if a then Transaction (sent_at t p) otherwise if b then Finish otherwise PowerCycle)
     go true b = refl
     go false true = refl
     go false false = refl
@@ -40,10 +40,10 @@ read_is t p a e = reads_apart p a (read_at t p) e
 
 -- what a record says moves it by one
 pub said_moves : (t : List ℕ) (p : ℕ) → next_place p (said_at t p) ≡ p + 1
-unfolding said_at if◌then◌else◌
+unfolding said_at if◌then◌otherwise◌
 said_moves t p = go (eqb (kind_at t p) 0) (eqb (kind_at t p) 1)
   where
-    go : (a b : Bool) → next_place p (if a then Transaction (sent_at t p) else if b then Finish else PowerCycle) ≡ p + 1
+    go : (a b : Bool) → next_place p (if a then Transaction (sent_at t p) otherwise if b then Finish otherwise PowerCycle) ≡ p + 1
     go true b = refl
     go false true = refl
     go false false = refl
@@ -64,10 +64,10 @@ next_le p End = omega arith
 next_le p (Fault n) = omega arith
 
 next_past : (t : List ℕ) (p : ℕ) → leb (records t) p ≡ true → next_place p (read_at t p) ≡ p
-unfolding read_at said_at if◌then◌else◌
-next_past t p e = go (whole t) (if not (good_record t p) then Fault 31 else said_at t p)
+unfolding read_at said_at if◌then◌otherwise◌
+next_past t p e = go (whole t) (if not (good_record t p) then Fault 31 otherwise said_at t p)
   where
-    go : (w : Bool) (x : AtPlace) → next_place p (if not w then Fault 30 else if leb (records t) p then End else x) ≡ p
+    go : (w : Bool) (x : AtPlace) → next_place p (if not w then Fault 30 otherwise if leb (records t) p then End otherwise x) ≡ p
     go true x = rw e
     go false x = refl
 

@@ -1,6 +1,6 @@
 -- Parts of `good_record` and of `read_at`, in the terms that the code goes by.
 use Rattle.std.specs.Prelude.{ℕ, Bool, ◌&&◌, ◌||◌, List, take, drop}
-use Rattle.lists.specs.Choice.{if◌then◌else◌, ◌=?◌, ◌≤?◌}
+use Rattle.lists.specs.Choice.{if◌then◌otherwise◌, ◌=?◌, ◌≤?◌}
 use Rattle.rules.specs.declared.AtPlace.{AtPlace}
 use Rattle.rules.specs.declared.AtPlace.TheVariants.{Transaction, Finish, PowerCycle, End, Fault}
 use Rattle.rules.specs.Tape.{Rec, transaction, finish, power_cycle, sent_limit, kind_at}
@@ -13,8 +13,8 @@ head_good n kind bits = (n ≤? sent_limit) && (kind ≤? 2) && (bits ≤? 15) &
 -- what a read answers where record p is there and good
 unfoldable pub said_at : List ℕ → ℕ → AtPlace
 said_at t p =
-    if kind_at t p =? 0 then Transaction (sent_at t p) else
-    if kind_at t p =? 1 then Finish else
+    if kind_at t p =? 0 then Transaction (sent_at t p) otherwise
+    if kind_at t p =? 1 then Finish otherwise
     PowerCycle
 
 -- the record that an answer tells of the tape t; where it tells none, a power cycle

@@ -5,7 +5,7 @@ use Prim.Native.Nat.{ℕ, ◌≤◌, ◌<◌}
 use native.Mathlib.Omega.{arith}
 use lib.ListN.{length, drop}
 use borrow.Author.Tests.{ne_eqb, lt-ltb, le-ltb}
-use Rattle.lists.specs.Choice.{if◌then◌else◌}
+use Rattle.lists.specs.Choice.{if◌then◌otherwise◌}
 use Rattle.rules.specs.declared.Step.{Step}
 use Rattle.rules.specs.declared.Decoded.TheVariants.{Good}
 use Rattle.rules.specs.declared.Refusal.{Refusal}
@@ -45,16 +45,16 @@ module _ (part s : ℕ) (job payload : List ℕ) (ok : (job_refusal part s job (
 module _ (part s : ℕ) (job payload tape : List ℕ) where
   pub translate_refused : (z : Refusal) → z ≡ job_refusal part s job (length payload) → (z.number ≡ 0 → ⊥)
       → translate_seen (translate_told (Refused z)) tape ≡ translate_of part s job payload tape
-  unfolding translate_of translate_refusal ◌or_else◌ if◌then◌else◌
+  unfolding translate_of translate_refusal ◌or_else◌ if◌then◌otherwise◌
   translate_refused z e h = rw (← e, ne_eqb z.number 0 h, ne_eqb z.number 0 h)
 
   pub translate_small : (job_refusal part s job (length payload)).number ≡ 0 → length tape < length (tape_of (part_of part) job payload)
       → translate_seen (translate_told (Refused (refusal 26))) tape ≡ translate_of part s job payload tape
-  unfolding translate_of translate_refusal ◌or_else◌ if◌then◌else◌
+  unfolding translate_of translate_refusal ◌or_else◌ if◌then◌otherwise◌
   translate_small e h = sym (rw (e, lt-ltb (length tape) (length (tape_of (part_of part) job payload)) h))
 
   pub translate_served : (job_refusal part s job (length payload)).number ≡ 0 → length (tape_of (part_of part) job payload) ≤ length tape
       → translate_seen (translate_told (Written (length (tape_of (part_of part) job payload)))) (tape_of (part_of part) job payload ++ drop (length (tape_of (part_of part) job payload)) tape)
       ≡ translate_of part s job payload tape
-  unfolding translate_of translate_refusal ◌or_else◌ if◌then◌else◌
+  unfolding translate_of translate_refusal ◌or_else◌ if◌then◌otherwise◌
   translate_served e h = sym (rw (e, le-ltb (length tape) (length (tape_of (part_of part) job payload)) h))

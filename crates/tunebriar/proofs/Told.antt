@@ -5,7 +5,7 @@ use mathlib.Core.List.{List}
 use Prim.Native.Nat.{ℕ, ◌≤◌}
 use native.Mathlib.Omega.{arith}
 use lib.Dec.{eqb, leb}
-use Rattle.lists.specs.Choice.{if◌then◌else◌}
+use Rattle.lists.specs.Choice.{if◌then◌otherwise◌}
 use Rattle.rules.specs.declared.AtPlace.TheVariants.{Transaction, Finish, PowerCycle, End, Fault}
 use Rattle.rules.specs.declared.Sent.{Sent}
 use Rattle.rules.specs.Tape.{sent_limit, whole, records, kind_at, good_record}
@@ -15,14 +15,14 @@ use Rattle.tape.proofs.Said.{read_is}
 
 -- a transaction that is read is no longer than a record holds
 read_short : (t : List ℕ) (p : ℕ) (s : Sent) → Transaction s ≡ read_at t p → s.length ≤ sent_limit
-unfolding read_at if◌then◌else◌
+unfolding read_at if◌then◌otherwise◌
 read_short t p s e = go (whole t) (leb (records t) p) (good_record t p) (eqb (kind_at t p) 0) (eqb (kind_at t p) 1) refl e
   where
     no : {A : Type 0} → ◌≡◌ {A = ℕ} 0 1 → A
     no z = absurd (omega arith)
 
     go : (a b g k₀ k₁ : Bool) → good_record t p ≡ g
-        → Transaction s ≡ (if not a then Fault 30 else if b then End else if not g then Fault 31 else if k₀ then Transaction (sent_at t p) else if k₁ then Finish else PowerCycle)
+        → Transaction s ≡ (if not a then Fault 30 otherwise if b then End otherwise if not g then Fault 31 otherwise if k₀ then Transaction (sent_at t p) otherwise if k₁ then Finish otherwise PowerCycle)
         → s.length ≤ sent_limit
     go false b g k₀ k₁ h q = no cc
     go true true g k₀ k₁ h q = no cc

@@ -2,16 +2,16 @@ use Rattle.laws.proofs.Sound.{reach_end, size_small}
 use Rattle.laws.proofs.Parts.{part_sound}
 use Rattle.laws.specs.Judged.{write_verdict}
 use Rattle.rules.specs.Parts.{part_of}
-use Rattle.lists.specs.Choice.{if◌then◌else◌}
+use Rattle.lists.specs.Choice.{if◌then◌otherwise◌}
 use native.Mathlib.Omega.{arith}
 use Rattle.judge.proofs.judge_write.Goals as goal
 
 pub returns-then-not-r : goal.returns-then-not-r
-unfolding write_verdict if◌then◌else◌
+unfolding write_verdict if◌then◌otherwise◌
 returns-then-not-r c = simp c.if-not-r.true c.ignore.ensures
 
 pub returns-then-is_locked_out : goal.returns-then-is_locked_out
-unfolding write_verdict if◌then◌else◌
+unfolding write_verdict if◌then◌otherwise◌
 returns-then-is_locked_out c = simp (c.if-not-r.false, ← c.is_locked_out.ensures, c.if-is_locked_out.true) c.ignore-then-is_locked_out.ensures
 
 pub first_protected-found-requires : goal.first_protected-found-requires
@@ -21,5 +21,5 @@ first_protected-found-requires c =
     omega (arith, reach_end p h c.args.w c.args.a c.requires, size_small p h)
 
 pub returns : goal.returns
-unfolding write_verdict if◌then◌else◌
+unfolding write_verdict if◌then◌otherwise◌
 returns c = simp (c.if-not-r.false, ← c.is_locked_out.ensures, c.if-is_locked_out.false, ← c.reach_start.ensures, ← c.reach_length.ensures, ← c.first_protected-found.ensures) c.by_protection.ensures

@@ -1,5 +1,5 @@
 use Rattle.rules.specs.JobRefusals.{job_refusal}
-use Rattle.lists.specs.Choice.{if◌then◌else◌}
+use Rattle.lists.specs.Choice.{if◌then◌otherwise◌}
 use Rattle.job.proofs.Passed.{fit}
 use borrow.Author.Tests.{lt-ltb, le-ltb}
 use native.Mathlib.Omega.{arith}
@@ -8,15 +8,15 @@ use mathlib.Core.Path.{sym, ◌∙◌}
 use Rattle.job.proofs.refuse.job_refusal.Goals as goal
 
 pub returns-then-not-is_part : goal.returns-then-not-is_part
-unfolding job_refusal if◌then◌else◌
+unfolding job_refusal if◌then◌otherwise◌
 returns-then-not-is_part c = rw (← c.is_part.ensures, c.if-not-is_part.true) c.refusal.ensures
 
 pub returns-then-is_unfit : goal.returns-then-is_unfit
-unfolding job_refusal if◌then◌else◌
+unfolding job_refusal if◌then◌otherwise◌
 returns-then-is_unfit c = rw (← c.is_part.ensures, c.if-not-is_part.false, ← c.is_unfit.ensures, c.if-is_unfit.true) c.refusal-then-is_unfit.ensures
 
 pub returns-then-setting_limit-setting : goal.returns-then-setting_limit-setting
-unfolding job_refusal if◌then◌else◌
+unfolding job_refusal if◌then◌otherwise◌
 returns-then-setting_limit-setting c =
     let l = c.setting_limit in
     let a = c.args in
@@ -26,7 +26,7 @@ pub steps_refusal-requires : goal.steps_refusal-requires
 steps_refusal-requires c = (fit _ _ (sym c.is_unfit.ensures ∙ c.if-is_unfit.false)).few
 
 pub returns : goal.returns
-unfolding job_refusal if◌then◌else◌
+unfolding job_refusal if◌then◌otherwise◌
 returns c =
     let l = c.setting_limit in
     let a = c.args in
