@@ -4,7 +4,7 @@
 Run once, at the top, after the kit's port.py; the port of docs/PORT.md used it so. It goes by text, over .antt and .rt files,
 must-fail edits, and what stands in backticks in the pages. A name with a capital inside gets underscores. In a name with dashes that
 a file of specs/ or proofs/ declares, a dash stays where it joins names alone, as in `patched-length`, and is an underscore
-where one of them is a plain word, and in a field or a constructor; a lemma that would then have the name of a word gets `_lem`.
+where one of them is a plain word, and in a field or a constructor; a lemma that would then have the name of a word gets `_lem`, and a field `has_`.
 The choice of crates/lists is named anew (`otherwise`, below). It prints the names that fall together in a file, for a person to look at.
 """
 
@@ -91,8 +91,8 @@ def main():
     for it in sorted(every):
         if "-" in it and is_low(it):
             own[it] = it.replace("-", "_") if it in of_records else dashes(camel(it), words)
-            if own[it] in taken and (it in lemmas or it not in of_records):
-                own[it] += "_lem"
+            if own[it] in taken:
+                own[it] = own[it] + "_lem" if it in lemmas or it not in of_records else "has_" + own[it]
 
     def turn(m):
         name = m[0]

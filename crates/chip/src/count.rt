@@ -32,6 +32,7 @@ fn carried_out(m: Meter, c: Command) -> Meter
 }
 
 // The meter after an answer.
+#[tactic(auto, using(lists::proofs::Choice::choices, std::proofs::lemmas::Bool::Decides::nat_tests), unfolding(rules::specs::CountEntry::meter_by_answer))]
 fn answered(part: u32, m: Meter, number: u32, op: u32) -> Meter
     requires { Room m 1 }
     ensures { result ≡ meter_by_answer (part_of part) m number op }
@@ -48,7 +49,7 @@ fn answered(part: u32, m: Meter, number: u32, op: u32) -> Meter
     meter::one_ignored(m)
 }
 
-// By value, so that the proof by hand of the entry that is lent the meter meets no branch.
+// By value: the entry that is lent the meter stores what this gives.
 pub fn count(part: u32, meter: Meter, number: u32, op: u32) -> Metered
     ensures { result ≡ count_of part meter number op }
 {

@@ -64,7 +64,7 @@ all_decide p (w ∷ ws) (h ⊳ hs) = found_decides p w h ⊳ all_decide p ws hs
 -- every row of every sound chip
 pub rows_decide : (p : Part) → Sound p → Each (Decides p) p.commands
 unfolding row_of
-rows_decide p sound = all_decide p p.commands (rows_found p.commands sound.distinct_codes)
+rows_decide p sound = all_decide p p.commands (rows_found p.commands sound.has_distinct_codes)
 
 -- a code that no row has is unknown: 12
 pub unlisted_is_unknown : (p : Part) (op : ℕ) → Unlisted op p.commands → command_of p op ≡ Unknown

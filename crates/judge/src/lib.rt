@@ -175,6 +175,7 @@ fn judge_kind(part: u32, r: Regs, fit: bool, high: bool, a: usize, k: Kind) -> V
 }
 
 // 12, 11, 10, 12, or what a known command asks.
+#[tactic(auto, using(lists::proofs::Choice::choices, std::proofs::lemmas::Bool::Decides::nat_tests), unfolding(laws::specs::Judged::judge_of))]
 fn judge(
     part: u32,
     r: Regs,

@@ -86,8 +86,8 @@ fm_sound =
       lo_page = λ s. (fm_lo_lem s).whole;
       hi_page = λ s. (fm_hi_lem s).whole;
       settings = lit≤ tt;
-      byte_codes = refl;
-      distinct_codes = refl;
+      has_byte_codes = refl;
+      has_distinct_codes = refl;
     }
 
 -- ---- tapeable

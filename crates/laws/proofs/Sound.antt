@@ -27,8 +27,8 @@ pub record Sound (p : Part) : Type 0 where
   -- a job can name every setting that the chip holds
   pub settings : p.setting_limit ≤ guard_limit
   -- a code is a byte, and stands in one row
-  pub byte_codes : byte_codes p.commands ≡ true
-  pub distinct_codes : distinct_codes p.commands ≡ true
+  pub has_byte_codes : byte_codes p.commands ≡ true
+  pub has_distinct_codes : distinct_codes p.commands ≡ true
 
 module _ (p : Part) (sound : Sound p) where
   pub unit_end : (u : EraseUnit) (a : ℕ) → a < p.size → unit_start u a + unit_length p.size u ≤ p.size
@@ -52,4 +52,4 @@ module _ (p : Part) (sound : Sound p) where
   -- a number that is no byte says nothing
   pub no_byte : (op : ℕ) → 255 < op → command_of p op ≡ Unknown
   unfolding row_of
-  no_byte op h = ap command_by (no_row op p.commands (far p.commands sound.byte_codes op h))
+  no_byte op h = ap command_by (no_row op p.commands (far p.commands sound.has_byte_codes op h))

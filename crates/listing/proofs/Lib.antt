@@ -1,3 +1,4 @@
 pub mod Turn
 pub mod Next
 pub mod InOrder
+pub mod Told

@@ -26,7 +26,7 @@ not_twice true = refl
 not_twice false = refl
 
 -- the listing of a tape with a fault
-refused : (t : List ℕ) (z : Refusal) → z ≡ fault_of t → 0 < z.number → listing_of t ≡ refused_line z.number z.index
+pub refused : (t : List ℕ) (z : Refusal) → z ≡ fault_of t → 0 < z.number → listing_of t ≡ refused_line z.number z.index
 refused t z e h = listing_refused t (ap accepted (sym e) ∙ ne_eqb z.number 0 (λ k. absurd (omega (arith, k, h)))) ∙ ap (λ (x : Refusal). refused_line x.number x.index) (sym e)
 
 -- ---- some bytes of the listing

@@ -34,6 +34,7 @@ fn put(tape: &[u8], done: &mut usize, bytes: &[u8]) -> Handed
 }
 
 // The line of what the reader found at a place. Where it found the end there is none, and no more follows.
+#[tactic(auto, using(crate::proofs::Told::told_long))]
 fn tell(tape: &[u8], place: usize, found: AtPlace, done: &mut usize) -> Handed
     requires { (read_told place found ≡ read_of tape.now place) × Come tape.now place done.old }
     ensures { (result.bytes ≡ done.new) × Gone tape.now place result }
@@ -71,6 +72,7 @@ fn list_from(tape: &[u8], place: usize, done: usize) -> Handed
 }
 
 // The one line of a fault; or, of a tape without one, every record's line.
+#[tactic(auto, using(crate::proofs::Told::fault_long))]
 fn list(tape: &[u8]) -> Handed
     ensures { AllHanded tape.now result }
 {

@@ -15,6 +15,9 @@ pub if-false {ℓ} : {A : Type ℓ} (t : Bool) (a b : A) → t ≡ false → (if
 unfolding if◌then◌otherwise◌
 if-false t a b e = rw e
 
+-- for a `#[tactic]`, which names no lemma with a dash
+pub ruleset choices = (if-true, if-false)
+
 -- what holds of both sides of a choice holds of the choice
 pub by_choice {ℓ} : {A : Type 0} (P : A → Type ℓ) (t : Bool) (a b : A) → P a → P b → P (if t then a otherwise b)
 unfolding if◌then◌otherwise◌

@@ -3,7 +3,7 @@ use Rattle.std.specs.Prelude.{Bool, true, false, ℕ, eqb, ltb, leb}
 
 infixr 5 if◌then◌otherwise◌
 infix 50 ◌=?◌ ◌<?◌ ◌≤?◌
--- shut, so that laws about a choice apply to it as it stands; `unfolding if◌then◌else◌` computes it
+-- shut, so that laws about a choice apply to it as it stands; `unfolding if◌then◌otherwise◌` computes it
 unfoldable pub if◌then◌otherwise◌ {ℓ} : {A : Type ℓ} → Bool → A → A → A
 if true then a otherwise b = a
 if false then a otherwise b = b

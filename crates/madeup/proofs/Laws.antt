@@ -38,8 +38,8 @@ mu_sound =
       lo_page = λ s. omega arith;
       hi_page = λ s. refl;
       settings = lit≤ tt;
-      byte_codes = refl;
-      distinct_codes = refl;
+      has_byte_codes = refl;
+      has_distinct_codes = refl;
     }
 
 -- ---- tapeable

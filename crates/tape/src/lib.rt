@@ -66,6 +66,7 @@ fn sent_length(tape: &[u8], place: usize) -> usize
 }
 
 // Four head bytes that 31 lets pass.
+#[tactic(auto, using(std::proofs::lemmas::Bool::Decides::nat_tests), unfolding(crate::specs::Record::head_good))]
 fn is_good_head(n: usize, kind: u8, bits: u8) -> bool
     ensures { result ≡ head_good n kind bits }
 {

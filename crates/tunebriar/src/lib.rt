@@ -140,7 +140,7 @@ fn replayed(kept: Kept, m: Meter, t: Replayed) -> TbAnswer
 
 // ---- the entries
 
-// The caller's meter brought up to date where it lies; thin, since a lent struct is proved by hand.
+// The caller's meter brought up to date where it lies.
 pub fn tb_count(part: u32, meter: &mut Meter, number: u32, op: u32) -> u32
     ensures { metered result meter.new ≡ count_of part meter.old number op }
 {

@@ -1,3 +1,4 @@
+use Rattle.listing.proofs.Told.{fault_long}
 use mathlib.Core.Path.{refl, ◌∙◌}
 use native.Mathlib.Omega.{arith}
 use Rattle.rules.specs.Listing.{lines_from}
@@ -14,16 +15,10 @@ slice_bounds-put-end c = laid_count c.refused_line-n.ensures
 pub put-requires : goal.put-requires
 put-requires c =
     let f = c.fault_of-fault in
-    refusal-next _ f.result _ f.ensures (omega (arith, c.if-number-ne0.true)) (laid_text c.refused_line-n.ensures)
-
-pub returns-then-number-ne0 : goal.returns-then-number-ne0
-returns-then-number-ne0 c =
-    let f = c.fault_of-fault in
-    refusal-whole _ f.result _ c.put.result f.ensures (omega (arith, c.if-number-ne0.true)) (laid_text c.refused_line-n.ensures)
-    (c.put.ensures.1 ∙ c.put.ensures.0)
+    refusal-next _ f.result _ f.ensures (omega arith) (laid_text c.refused_line-n.ensures)
 
 pub list_from-requires : goal.list_from-requires
 unfolding lines_from
 list_from-requires c =
     let f = c.fault_of-fault in
-    record { sound = no_fault _ f.result f.ensures (omega (arith, c.if-number-ne0.false)); within = omega arith; long = refl }
+    record { sound = no_fault _ f.result f.ensures (omega arith); within = omega arith; long = refl }

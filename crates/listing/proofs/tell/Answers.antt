@@ -8,25 +8,17 @@ use Rattle.lines.proofs.Laid.{laid_text}
 use Rattle.listing.proofs.Next.{record_next, there, past, told_last, told_record}
 use Rattle.listing.proofs.tell.Goals as goal
 
-pub returns-then-n-eq0 : goal.returns-then-n-eq0
-returns-then-n-eq0 c =
-    let l = c.record_line-n.ensures in (
-      refl,
-      told_last c.args.tape.now c.args.place c.args.done.now c.requires.1
-          (past c.args.tape.now c.args.place c.args.done.now c.args.found c.requires.0 c.requires.1 (omega (arith, l.long, c.if-n-eq0.true))),
-    )
-
 pub put-requires : goal.put-requires
 put-requires c =
     let l = c.record_line-n.ensures in
-    let h : 0 < length (line_of c.args.tape.now c.args.place c.args.found) = omega (arith, l.long, c.if-n-eq0.false) in
+    let h : 0 < length (line_of c.args.tape.now c.args.place c.args.found) = omega (arith, l.long) in
     let w = there c.args.tape.now c.args.place c.args.done.now c.args.found c.requires.0 c.requires.1 h in
     record_next c.args.tape.now c.args.place c.args.done.now _ c.requires.1 w.0 (laid_text l ∙ w.1)
 
 pub returns : goal.returns
 returns c =
     let l = c.record_line-n.ensures in
-    let h : 0 < length (line_of c.args.tape.now c.args.place c.args.found) = omega (arith, l.long, c.if-n-eq0.false) in
+    let h : 0 < length (line_of c.args.tape.now c.args.place c.args.found) = omega (arith, l.long) in
     let w = there c.args.tape.now c.args.place c.args.done.now c.args.found c.requires.0 c.requires.1 h in
     let e = c.put.ensures in (
       e.1,
