@@ -67,7 +67,8 @@ impl Stop {
         loop {
             let left = until.map_or(-1, |until| {
                 let left = until.saturating_duration_since(Instant::now());
-                i32::try_from(left.as_millis()).unwrap_or(i32::MAX)
+                // rounded up: a wait is never shorter than was asked
+                i32::try_from(left.as_nanos().div_ceil(1_000_000)).unwrap_or(i32::MAX)
             });
             let mut both = [PollFd::new(&self.0, PollFlags::IN), PollFd::new(&on, what)];
             match poll(&mut both, left) {
