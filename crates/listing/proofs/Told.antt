@@ -13,9 +13,8 @@ use Rattle.rules.specs.Reading.{read_told, read_of}
 use Rattle.rules.specs.Listing.{refused_line, lines_from, listing_of}
 use Rattle.lines.specs.Fault.{fault_of}
 use Rattle.lines.specs.Line.{line_of, Laid}
-use Rattle.lines.proofs.Laid.{laid_text, laid_count}
-use Rattle.listing.specs.declared.Handed.{Handed}
-use Rattle.listing.specs.Handed.{Come, Gone}
+use Rattle.lines.proofs.Laid.{laid_text}
+use Rattle.listing.specs.Handed.{Come}
 use Rattle.listing.proofs.Next.{past, told_last, refused}
 
 -- the one line of a fault

@@ -1,9 +1,8 @@
-use Rattle.listing.proofs.Told.{fault_long}
-use mathlib.Core.Path.{refl, ◌∙◌}
+use mathlib.Core.Path.{refl}
 use native.Mathlib.Omega.{arith}
 use Rattle.rules.specs.Listing.{lines_from}
 use Rattle.lines.proofs.Laid.{laid-within, laid_count, laid_text}
-use Rattle.listing.proofs.Next.{refusal-next, refusal-whole, no_fault}
+use Rattle.listing.proofs.Next.{refusal-next, no_fault}
 use Rattle.listing.proofs.list.Goals as goal
 
 pub slice_bounds-line-end : goal.slice_bounds-line-end

@@ -1,11 +1,11 @@
-use mathlib.Core.Path.{refl, ap, ◌∙◌}
+use mathlib.Core.Path.{ap, ◌∙◌}
 use mathlib.Core.List.{List}
 use Prim.Native.Nat.{ℕ, ◌+◌, ◌<◌}
 use native.Mathlib.Omega.{arith}
 use lib.ListN.{length}
 use Rattle.lines.specs.Line.{line_of}
 use Rattle.lines.proofs.Laid.{laid_text}
-use Rattle.listing.proofs.Next.{record_next, there, past, told_last, told_record}
+use Rattle.listing.proofs.Next.{record_next, there, told_record}
 use Rattle.listing.proofs.tell.Goals as goal
 
 pub put-requires : goal.put-requires
