@@ -5,7 +5,7 @@ use mathlib.Core.List.{List, ◌++◌}
 use Prim.Native.Nat.{ℕ, ◌+◌, ◌-◌, ◌%◌, ◌≤◌}
 use native.Mathlib.Omega.{arith}
 use native.Mathlib.Nat.{mod-eq_of_lt, add-mod_left}
-use lib.ListN.{length, get_or, length-append, get_or-append}
+use lib.ListN.{length, get_or, take, length-append, get_or-append}
 use lib.Seq.{get_or-append-add}
 use borrow.Rule.Slice.PartMut.{mid_of}
 use Rattle.lists.specs.Places.{tabulate}
@@ -38,15 +38,15 @@ straight l a n h =
 
 -- the list's end, and then its start
 pub wrapped : (l : List ℕ) (a n : ℕ) → a ≤ length l → length l ≤ a + n → n ≤ length l
-    → mid_of a (length l - a) l ++ mid_of 0 (n - (length l - a) - 0) l ≡ tabulate n (wrapped_at l a)
+    → mid_of a (length l - a) l ++ take (n - (length l - a)) l ≡ tabulate n (wrapped_at l a)
 wrapped l a n p q r =
     let m : ℕ = length l - a in
     let e : a + m - a ≡ m = omega arith in
-    let d : 0 + (n - m) - 0 ≡ n - m - 0 = omega arith in
+    let d : 0 + (n - m) - 0 ≡ n - m = omega arith in
     let s : m + (n - m) ≡ n = omega arith in
-    ap (λ (k : ℕ). mid_of a k l ++ mid_of 0 (n - m - 0) l) (sym e)
-    ∙ ap (λ (x : List ℕ). x ++ mid_of 0 (n - m - 0) l) (straight l a m (omega arith))
-    ∙ ap (λ (k : ℕ). tabulate m (wrapped_at l a) ++ mid_of 0 k l) (sym d)
+    ap (λ (k : ℕ). mid_of a k l ++ take (n - m) l) (sym e)
+    ∙ ap (λ (x : List ℕ). x ++ take (n - m) l) (straight l a m (omega arith))
+    ∙ ap (λ (k : ℕ). tabulate m (wrapped_at l a) ++ take k l) (sym d)
     ∙ ap (λ (x : List ℕ). tabulate m (wrapped_at l a) ++ x)
     (straight l 0 (n - m) (omega arith) ∙ tab_same (n - m) _ _ (λ j h. ap (λ (x : ℕ). get_or l x 0) (again j)))
     ∙ tab_split m (n - m) (wrapped_at l a)

@@ -1,5 +1,5 @@
 // What a program, an erase and a read do to the bytes that are lent to them.
-#![tactic(auto)]
+#![tactic(auto, using(lists::proofs::Tabulate::by_places))]
 
 ghost use Rattle.std.specs.Prelude.{◌≡◌, ◌+◌, ◌%◌, ◌≤◌, ◌<◌, length, get_or};
 ghost use Rattle.std.specs.Int.Bits.{bit_and};
@@ -18,22 +18,15 @@ use rules::PAGE;
 pub fn fill(bytes: &mut [u8], value: u8)
     ensures { bytes.new ≡ tabulate (length bytes.old) (λ j. value) }
 {
-    let mut i = 0;
-    while i < bytes.len() {
-        bytes[i] = value;
-        i += 1;
-    }
+    bytes.fill(value);
 }
 
 // The bytes at even places become first, the others second.
 pub fn in_turn(bytes: &mut [u8], first: u8, second: u8)
     ensures { bytes.new ≡ tabulate (length bytes.old) (in_turn first second) }
 {
-    let mut i = 0;
-    while i < bytes.len() {
-        let v = if i % 2 == 0 { first } else { second };
-        bytes[i] = v;
-        i += 1;
+    for (i, byte) in bytes.iter_mut().enumerate() {
+        *byte = if i % 2 == 0 { first } else { second };
     }
 }
 
@@ -42,23 +35,20 @@ pub fn erase(array: &mut [u8], start: usize, count: usize)
     requires { start + count ≤ length array.old }
     ensures { array.new ≡ patched array.old start count ff }
 {
-    let e = start + count;
-    fill(&mut array[start..e], 255);
+    fill(&mut array[start..start + count], 255);
 }
 
 // ---- programs
 
 // The last byte sent to each place of the page, FF where none is: FF leaves what it is ANDed into.
+#[tactic(auto, using(lists::proofs::Tabulate::by_places, crate::proofs::Sent::latch_more, crate::proofs::Sent::latch_all))]
 fn latch(off: usize, bytes: &[u8]) -> [u8; 256]
     requires { (off < page) × (length bytes.now < number_end) }
     ensures { result ≡ tabulate page (λ j. last_sent off bytes.now j 255) }
 {
     let mut buf = [255u8; 256];
-    let mut i = 0;
-    while i < bytes.len() {
-        let j = (off + i) % PAGE;
-        buf[j] = bytes[i];
-        i += 1;
+    for (i, &byte) in bytes.iter().enumerate() {
+        buf[(off + i) % PAGE] = byte;
     }
     buf
 }
@@ -68,10 +58,8 @@ fn and_in(s: &mut [u8], bytes: &[u8])
     requires { length s.old ≡ length bytes.now }
     ensures { s.new ≡ tabulate (length s.old) (λ j. bit_and (get_or s.old j 0) (get_or bytes.now j 0)) }
 {
-    let mut i = 0;
-    while i < s.len() {
-        s[i] = s[i] & bytes[i];
-        i += 1;
+    for (i, byte) in s.iter_mut().enumerate() {
+        *byte &= bytes[i];
     }
 }
 
@@ -83,11 +71,10 @@ fn program(s: &mut [u8], off: usize, bytes: &[u8])
     let end = off + bytes.len();
     // Nothing wraps, so no place is sent twice.
     if end <= PAGE {
-        and_in(&mut s[off..end], bytes);
-        return;
+        and_in(&mut s[off..end], bytes)
+    } else {
+        and_in(s, &latch(off, bytes))
     }
-    let sent = latch(off, bytes);
-    and_in(s, &sent);
 }
 
 // The bytes go to the page of address a, from its offset on.
@@ -96,8 +83,7 @@ pub fn program_at(array: &mut [u8], address: usize, bytes: &[u8])
     ensures { array.new ≡ programmed array.old address bytes.now }
 {
     let base = address / PAGE * PAGE;
-    let end = base + PAGE;
-    program(&mut array[base..end], address % PAGE, bytes);
+    program(&mut array[base..base + PAGE], address % PAGE, bytes);
 }
 
 // ---- copies
@@ -107,11 +93,7 @@ pub fn copy(out: &mut [u8], from: &[u8])
     requires { length out.old ≡ length from.now }
     ensures { out.new ≡ from.now }
 {
-    let mut i = 0;
-    while i < out.len() {
-        out[i] = from[i];
-        i += 1;
-    }
+    out.copy_from_slice(from);
 }
 
 // out becomes the array's bytes from a on; after the array's last comes its first.
@@ -122,11 +104,10 @@ pub fn copy_wrapped(out: &mut [u8], array: &[u8], address: usize)
     let n = out.len();
     let room = array.len() - address;
     if n <= room {
-        let end = address + n;
-        copy(out, &array[address..end]);
-        return;
+        copy(out, &array[address..address + n])
+    } else {
+        let (head, tail) = out.split_at_mut(room);
+        copy(head, &array[address..]);
+        copy(tail, &array[..n - room])
     }
-    let rest = n - room;
-    copy(&mut out[0..room], &array[address..]);
-    copy(&mut out[room..], &array[0..rest]);
 }

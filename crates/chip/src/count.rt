@@ -5,27 +5,27 @@ ghost use Rattle.rules.specs.Kinds.{of_known};
 ghost use Rattle.rules.specs.Part.{command_of};
 ghost use Rattle.rules.specs.Parts.{part_of};
 ghost use Rattle.rules.specs.Counts.{meter_after};
-ghost use Rattle.rules.specs.CountEntry.{meter_by_answer, count_of};
+ghost use Rattle.rules.specs.CountEntry.{meter_by_answer, count_told, count_of};
 ghost use Rattle.laws.specs.Room.{Room};
 
-use rules::{Command, Meter, Metered};
+use rules::{Kind, Meter, Refusal};
 
 // What a number says as a first byte: over 255 it is none, and no command.
-fn command_said(part: u32, op: u32) -> Command
+fn command_said(part: u32, op: u32) -> Option<Kind>
     ensures { result ≡ command_of (part_of part) op }
 {
     if 255 < op {
-        return Command::Unknown;
+        return None;
     }
     parts::command_of(part, op as u8)
 }
 
 // The meter after a command that was carried out.
-fn carried_out(m: Meter, c: Command) -> Meter
+fn carried_out(m: Meter, c: Option<Kind>) -> Meter
     requires { Room m 1 }
     ensures { result ≡ of_known c m (λ k. meter_after m (CarriedOut k)) }
 {
-    let Command::Known(k) = c else {
+    let Some(k) = c else {
         return m;
     };
     meter::meter_step(m, k)
@@ -50,23 +50,14 @@ fn answered(part: u32, m: Meter, number: u32, op: u32) -> Meter
 }
 
 // By value: the entry that is lent the meter stores what this gives.
-pub fn count(part: u32, meter: Meter, number: u32, op: u32) -> Metered
-    ensures { result ≡ count_of part meter number op }
+pub fn count(part: u32, meter: Meter, number: u32, op: u32) -> Result<Meter, Refusal>
+    ensures { count_told meter result ≡ count_of part meter number op }
 {
     if !parts::is_part(part) {
-        return Metered {
-            number: 1,
-            meter: meter,
-        };
+        return Err(Refusal::UnknownPart);
     }
     if !meter::has_room(meter, 1) {
-        return Metered {
-            number: 7,
-            meter: meter,
-        };
+        return Err(Refusal::MeterFull);
     }
-    Metered {
-        number: 0,
-        meter: answered(part, meter, number, op),
-    }
+    Ok(answered(part, meter, number, op))
 }

@@ -1,7 +1,7 @@
 // The chip: a transaction, a finish event, a power cycle; and the meter by itself.
 #![tactic(auto)]
 
-use rules::{Event, Kept, Kind, Meter, Regs, Served, Transacted, Verdict, Write};
+use rules::{Kept, Kind, Meter, Refusal, Regs, Served, Verdict, Write};
 
 pub mod count;
 mod refuse;
@@ -143,10 +143,10 @@ pub fn transact(
     array: &mut [u8],
     out: &mut [u8],
     bytes: &[u8],
-) -> Transacted
+) -> Result<Served, Refusal>
     ensures { transact_seen (transact_told kept meter result) array.new out.new ≡ transact_of part kept meter array.old out.old bytes.now leftover wp }
 {
-    let z = refuse::transaction(
+    refuse::transaction(
         part,
         array.len(),
         kept,
@@ -154,45 +154,30 @@ pub fn transact(
         leftover,
         out.len(),
         meter,
-    );
-    let number = z.number;
-    if number != 0 {
-        return Transacted::Refused(z);
-    }
-    let r = regs::regs_of(kept);
+    )?;
+    let r = Regs::from(kept);
     let t = turn(part, r, meter, array, bytes, leftover, wp != 0);
-    let verdict = t.verdict;
-    let next = t.regs;
-    let meter = t.meter;
     let n = bytes.len();
-    output::show(&mut out[0..n], part, r, array, bytes, verdict);
-    Transacted::Stepped(Served {
-        verdict: verdict,
-        regs: regs::kept_of(next),
-        meter: meter,
+    output::show(&mut out[..n], part, r, array, bytes, t.verdict);
+    Ok(Served {
+        verdict: t.verdict,
+        regs: Kept::from(t.regs),
+        meter: t.meter,
     })
 }
 
 // A finish event.
-pub fn finish(part: u32, kept: Kept) -> Event
+pub fn finish(part: u32, kept: Kept) -> Result<Kept, Refusal>
     ensures { event_told kept result ≡ finish_of part kept }
 {
-    let z = refuse::event(part, kept);
-    let number = z.number;
-    if number != 0 {
-        return Event::Refused(z);
-    }
-    Event::Passed(regs::kept_of(regs::finished(regs::regs_of(kept))))
+    refuse::event(part, kept)?;
+    Ok(Kept::from(regs::finished(Regs::from(kept))))
 }
 
 // A power cycle.
-pub fn power_cycle(part: u32, kept: Kept) -> Event
+pub fn power_cycle(part: u32, kept: Kept) -> Result<Kept, Refusal>
     ensures { event_told kept result ≡ power_cycle_of part kept }
 {
-    let z = refuse::event(part, kept);
-    let number = z.number;
-    if number != 0 {
-        return Event::Refused(z);
-    }
-    Event::Passed(regs::kept_of(regs::power_cycled(regs::regs_of(kept))))
+    refuse::event(part, kept)?;
+    Ok(Kept::from(regs::power_cycled(Regs::from(kept))))
 }

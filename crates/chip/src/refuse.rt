@@ -5,6 +5,7 @@ ghost use Rattle.rules.specs.Refusals.{transact_refusal, event_refusal};
 use rules::{Kept, LEFTOVER_LIMIT, Meter, Refusal, TRANSACTION_LIMIT};
 
 // Any input: `count` bytes are clocked in.
+#[tactic(auto, using(lists::proofs::Choice::choices, std::proofs::lemmas::Bool::Decides::nat_tests), unfolding(rules::specs::Refusals::transact_refusal))]
 pub fn transaction(
     part: u32,
     array_length: usize,
@@ -13,41 +14,42 @@ pub fn transaction(
     leftover: u32,
     out_length: usize,
     meter: Meter,
-) -> Refusal
+) -> Result<(), Refusal>
     ensures { result ≡ transact_refusal part array_length kept count leftover out_length meter }
 {
     if !parts::is_part(part) {
-        return refusals::refusal(1);
+        return Err(Refusal::UnknownPart);
     }
     if array_length != parts::size_of(part) {
-        return refusals::refusal(2);
+        return Err(Refusal::ArrayLength);
     }
     if !parts::well_formed(part, kept) {
-        return refusals::refusal(3);
+        return Err(Refusal::NotWellFormed);
     }
     if TRANSACTION_LIMIT < count {
-        return refusals::refusal(4);
+        return Err(Refusal::LongTransaction);
     }
     if LEFTOVER_LIMIT < leftover {
-        return refusals::refusal(5);
+        return Err(Refusal::LeftoverBits);
     }
     if out_length < count {
-        return refusals::refusal(6);
+        return Err(Refusal::ShortOutput);
     }
     if !meter::has_room(meter, 1) {
-        return refusals::refusal(7);
+        return Err(Refusal::MeterFull);
     }
-    refusals::refusal(0)
+    Ok(())
 }
 
-pub fn event(part: u32, kept: Kept) -> Refusal
+#[tactic(auto, using(lists::proofs::Choice::choices, std::proofs::lemmas::Bool::Decides::nat_tests), unfolding(rules::specs::Refusals::event_refusal))]
+pub fn event(part: u32, kept: Kept) -> Result<(), Refusal>
     ensures { result ≡ event_refusal part kept }
 {
     if !parts::is_part(part) {
-        return refusals::refusal(1);
+        return Err(Refusal::UnknownPart);
     }
     if !parts::well_formed(part, kept) {
-        return refusals::refusal(3);
+        return Err(Refusal::NotWellFormed);
     }
-    refusals::refusal(0)
+    Ok(())
 }

@@ -1,4 +1,5 @@
 -- Demand 2: a command that document 01 allows is carried out, with its effect; and none other is.
+use Rattle.std.specs.Prelude.{Some}
 use mathlib.Core.Path.{◌≡◌, refl, sym, ap, subst}
 use mathlib.Core.Bool.{Bool, true, false, not, ◌&&◌}
 use mathlib.Core.List.{List, ◌++◌}
@@ -16,7 +17,6 @@ use Rattle.rules.specs.declared.Write.{Write}
 use Rattle.rules.specs.declared.Write.TheVariants.{Program, Erase, WriteStatus}
 use Rattle.rules.specs.declared.Kind.{Kind}
 use Rattle.rules.specs.declared.Kind.TheVariants.{Writes}
-use Rattle.rules.specs.declared.Command.TheVariants.{Known}
 use Rattle.rules.specs.declared.Verdict.TheVariants.{CarriedOut}
 use Rattle.rules.specs.Kinds.{code_of, of_write}
 use Rattle.rules.specs.Part.{Part, command_of, shaped}
@@ -58,7 +58,7 @@ pub record Allowed (p : Part) (r : Regs) (b : List ℕ) (x : ℕ) (high : Bool) 
   -- idle, or a code that is heard while BUSY is 1
   pub idle : (r.busy ≡ false) ⊎ (p.heard_busy (get_or b 0 0) ≡ true)
   -- the code stands in the table, and byte count and leftover bits are those of its row
-  pub known : command_of p (get_or b 0 0) ≡ Known k
+  pub known : command_of p (get_or b 0 0) ≡ Some k
   pub formed : shaped p (get_or b 0 0) (length b) x ≡ true
   pub may_write : (w : Write) → k ≡ Writes w → MayWrite p r high (address_of p b) w
 

@@ -1,4 +1,5 @@
--- Laws of joined tests that the theorems share.
+-- Laws of joined tests and of checks that the theorems share.
+use Rattle.std.specs.Prelude.{Ok, Err}
 use mathlib.Core.Path.{◌≡◌, refl, sym}
 use mathlib.Core.Bool.{Bool, true, false, not, ◌&&◌, ◌||◌}
 use mathlib.Core.Logic.{◌⊎◌, inl, inr, ⊎_elim, ◌↔◌}
@@ -6,10 +7,27 @@ use Prim.Native.Nat.{ℕ, ◌≤◌, ◌<◌}
 use native.Mathlib.Omega.{arith}
 use borrow.Author.Tests.{eqb-true, eq-eqb, leb-true, le-leb, ltb-true, lt-ltb}
 use Rattle.lists.specs.Choice.{◌=?◌, ◌<?◌, ◌≤?◌}
+use Rattle.rules.specs.declared.Refusal.{Refusal}
+use Rattle.rules.specs.Refusals.{number_of, index_of, Checked, passes, refused, answered}
+use Rattle.claims.specs.TurnedAway.{Refuses}
 
 -- true is not false
 pub never : {A : Type 0} → ◌≡◌ {A = Bool} true false → A
 never q = let c : ◌≡◌ {A = ℕ} 0 1 = cc in absurd (omega arith)
+
+-- what holds of both answers of an entry holds of the one that it gives
+pub by_check : {A : Type 0} (P : A → Type 0) (c : Checked) (a : A) (b : Refusal → A) → P a → ((z : Refusal) → P (b z)) → P (answered c a b)
+unfolding answered
+by_check P (Ok u) a b h k = h
+by_check P (Err z) a b h k = k z
+
+-- a refusal is one with its own number and index
+pub refuses_told : (c : Checked) (z : Refusal) → c ≡ refused z → Refuses c (number_of z) (index_of z)
+refuses_told c z e = rw e (refl, refl)
+
+-- what passes is refused with none
+pub refuses_not : (c : Checked) (n i : ℕ) → c ≡ passes → Refuses c n i → ⊥
+refuses_not c n i e = rw e (λ h. h)
 
 pub both_false : (s t : Bool) → (s && t) ≡ false ↔ (s ≡ false) ⊎ (t ≡ false)
 both_false true t = (inr, ⊎_elim (λ e. cc) (λ e. e))

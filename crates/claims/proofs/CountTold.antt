@@ -11,13 +11,13 @@ use Rattle.lists.specs.Choice.{if◌then◌otherwise◌}
 use Rattle.lists.proofs.Choice.{by_choice}
 use Rattle.rules.specs.declared.Kept.{Kept}
 use Rattle.rules.specs.declared.Meter.{Meter}
-use Rattle.rules.specs.declared.Metered.{Metered}
 use Rattle.rules.specs.declared.Verdict.TheVariants.{CarriedOut}
 use Rattle.rules.specs.Kinds.{of_known}
 use Rattle.rules.specs.Parts.{is_part, part_of}
 use Rattle.rules.specs.Status.{regs_of}
+use Rattle.rules.specs.Verdict.{reason_number}
 use Rattle.rules.specs.Counts.{ignored_counted, meter_after, room}
-use Rattle.rules.specs.CountEntry.{meter_by_answer, metered, count_of}
+use Rattle.rules.specs.CountEntry.{meter_by_answer, Metered, metered, count_of}
 use Rattle.rules.specs.Transact.{AnswerTold, is_high, transact_of}
 use Rattle.laws.specs.Room.{Room}
 use Rattle.laws.proofs.Accepted.{room_had}
@@ -66,7 +66,8 @@ module _ (part : ℕ) (kept : Kept) (m : Meter) (l o b : List ℕ) (x wp : ℕ) 
       let h = agreed 0 (meter_after m (CarriedOut k)) c (rw (carried_passed (part_of part) (regs_of kept) b x (is_high wp) k e).known refl) in
       (ap (λ (t : Metered). t.meter) h, λ q. ap (λ (t : Metered). t.number) h))
       (λ c w e.
-      let i = ignored-number (part_of part) (regs_of kept) b x (is_high wp) w e in
-      let h = agreed w.number (ignored_counted m) c (rw (ne_eqb w.number 0 (λ q. omega arith), le-leb 10 w.number i.0, le-leb w.number 16 i.1) refl) in
+      let n = reason_number w in
+      let i = ignored-number w in
+      let h = agreed n (ignored_counted m) c (rw (ne_eqb n 0 (λ q. omega arith), le-leb 10 n i.0, le-leb n 16 i.1) refl) in
       (ap (λ (t : Metered). t.meter) h, λ q. ap (λ (t : Metered). t.number) h))
-      (λ h k. (left_at part m _ (get_or b 0 0) (λ q. omega arith) (omega arith), λ q. cc))
+      (λ z e h k. (left_at part m _ (get_or b 0 0) (λ q. omega arith) (omega arith), λ q. cc))

@@ -17,6 +17,7 @@ use Rattle.rules.specs.declared.Verdict.TheVariants.{CarriedOut, Ignored}
 use Rattle.rules.specs.Kinds.{of_write}
 use Rattle.rules.specs.Parts.{part_of}
 use Rattle.rules.specs.Status.{regs_of}
+use Rattle.rules.specs.Verdict.{reason_number}
 use Rattle.rules.specs.Counts.{counted, ignored_counted, meter_after}
 use Rattle.rules.specs.Transact.{is_high, transact_of}
 use Rattle.laws.proofs.CarriedOut.{by_write, carried_passed}
@@ -122,12 +123,12 @@ meter_counts_lent part kept m l o b x wp =
     (λ a. let z : ◌≡◌ {A = ℕ} 0 1 = cc in absurd (omega arith), λ a. absurd (omega arith))
     (meter-counts m (CarriedOut k)))
     (λ c r e.
-    let h = ignored-number (part_of part) (regs_of kept) b x (is_high wp) r e in
-    counts_as (Accepts (Ignored r)) (AcceptedAt part b r.number) (Ignores (Ignored r)) (IgnoredAt r.number) m (meter_after m (Ignored r))
+    let h = ignored-number r in
+    counts_as (Accepts (Ignored r)) (AcceptedAt part b (reason_number r)) (Ignores (Ignored r)) (IgnoredAt (reason_number r)) m (meter_after m (Ignored r))
     (λ w. (λ a. let z : ◌≡◌ {A = ℕ} 0 1 = cc in absurd (omega arith), λ a. absurd (omega arith)))
     (λ a. h, λ a. (r, refl))
     (meter-counts m (Ignored r)))
-    (λ h k. record {
+    (λ z e h k. record {
       programs = record { rises = λ a. absurd (omega arith); stays = λ a. refl };
       erases = record { rises = λ a. let q = a.1.0 in absurd (omega arith); stays = λ a. refl };
       register_writes = record { rises = λ a. absurd (omega arith); stays = λ a. refl };

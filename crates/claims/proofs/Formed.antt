@@ -33,6 +33,7 @@ use Rattle.rules.specs.Replay.{ReplaySeen, replay_served, replay_refused, replay
 use Rattle.laws.proofs.Flags.{flag_small}
 use Rattle.laws.proofs.Steady.{Steady, never_sleeps}
 use Rattle.laws.proofs.Parts.{part_steady}
+use Rattle.claims.proofs.Choices.{by_check}
 use Rattle.claims.proofs.Entry.{by_answer}
 use Rattle.claims.proofs.Allowed.{Allowed, carried_out_is_allowed}
 use Rattle.claims.proofs.RoundTrip.{formed_word, kept_back, regs_back}
@@ -219,23 +220,23 @@ module _ (part : ℕ) (kept : Kept) (formed : Fit part kept) where
   pub transact_formed : (m : Meter) (l o b : List ℕ) (x wp : ℕ) → Fit part (transact_of part kept m l o b x wp).answer.regs
   transact_formed m l o b x wp =
       let h = formed-after b x (is_high wp) in
-      by_answer part kept m l o b x wp (λ s. Fit part s.answer.regs) (λ c k e. rw e at h) (λ c w e. rw e at h) (λ i j. formed)
+      by_answer part kept m l o b x wp (λ s. Fit part s.answer.regs) (λ c k e. rw e at h) (λ c w e. rw e at h) (λ z e i j. formed)
 
   pub finish-formed : Fit part (finish_of part kept).regs
   unfolding finish_of event_of
-  finish-formed = by_choice (λ (s : EventTold). Fit part s.regs) _ _ _ formed-after-finish formed
+  finish-formed = by_check (λ (s : EventTold). Fit part s.regs) _ _ _ formed-after-finish (λ z. formed)
 
   pub power_cycle_formed : Fit part (power_cycle_of part kept).regs
   unfolding power_cycle_of event_of
-  power_cycle_formed = by_choice (λ (s : EventTold). Fit part s.regs) _ _ _ formed_after_power_cycle formed
+  power_cycle_formed = by_check (λ (s : EventTold). Fit part s.regs) _ _ _ formed_after_power_cycle (λ z. formed)
 
   pub replay_first_formed : (m : Meter) (l t : List ℕ) (k : ℕ) → Fit part (replay_first_of part kept m l t k).answer.regs
   unfolding replay_first_of replay_served replay_refused
   replay_first_formed m l t k =
-      by_choice (λ (s : ReplaySeen). Fit part s.answer.regs) _ _ _
+      by_check (λ (s : ReplaySeen). Fit part s.answer.regs) _ _ _
       (formed_word_after part kept (λ r. (play (part_of part) (take k (recs_of t)) (state r l m)).regs)
       (λ r h. formed-played (part_of part) (part_steady part) (take k (recs_of t)) (state r l m) h) formed)
-      formed
+      (λ z. formed)
 
   pub replay_formed : (m : Meter) (l t : List ℕ) → Fit part (replay_of part kept m l t).answer.regs
   unfolding replay_of

@@ -32,4 +32,4 @@ ignored_lent part kept m l o b x wp =
     by_answer part kept m l o b x wp (λ s. s.answer.served ≡ true → 1 ≤ s.answer.number → OneCountLent kept m l o b s)
     (λ c k e s n. absurd (omega arith))
     (λ c w e s n. record { out = refl; array = refl; regs = kept_back _ (part_steady part) kept c.begun.formed; meter = refl })
-    (λ h k s n. never (sym s))
+    (λ z e h k s n. never (sym s))

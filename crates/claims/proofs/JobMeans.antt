@@ -12,7 +12,7 @@ use Rattle.rules.specs.declared.Meter.{Meter}
 use Rattle.rules.specs.declared.Bill.{Bill}
 use Rattle.rules.specs.Parts.{is_part, part_of}
 use Rattle.rules.specs.Status.{regs_of, kept_of}
-use Rattle.rules.specs.Refusals.{◌or_else◌}
+use Rattle.rules.specs.Refusals.{passes, ◌or_else◌}
 use Rattle.rules.specs.Tape.{Rec, records, recs_of}
 use Rattle.rules.specs.Play.{State, state, play}
 use Rattle.rules.specs.Replay.{records_refusal, replay_refusal, played_told, replay_seen, replay_of}
@@ -43,20 +43,20 @@ module _ (part s : ℕ) (job payload buffer : List ℕ) (served : (translate_of 
   rs = job_recs (part_of part) payload (steps_of job)
 
   -- a tape that is served is the job's tape
-  written : ((job_refusal part s job (length payload)).number ≡ 0)
+  written : (job_refusal part s job (length payload) ≡ passes)
       × (take (translate_of part s job payload buffer).answer.length (translate_of part s job payload buffer).tape ≡ w)
   written =
       by_translation part s job payload buffer
-      (λ v. v.answer.served ≡ true → ((job_refusal part s job (length payload)).number ≡ 0) × (take v.answer.length v.tape ≡ w))
+      (λ v. v.answer.served ≡ true → (job_refusal part s job (length payload) ≡ passes) × (take v.answer.length v.tape ≡ w))
       (λ e h q. (e, take-append_seam w (drop (length w) buffer)))
       (λ e h q. never (sym q))
-      (λ e q. never (sym q))
+      (λ z e q. never (sym q))
       served
 
   pub tape-is : tape_written part s job payload buffer ≡ w
   tape-is = written.1
 
-  pub unrefused : (job_refusal part s job (length payload)).number ≡ 0
+  pub unrefused : job_refusal part s job (length payload) ≡ passes
   unrefused = written.0
 
   ok : RecsOk rs
@@ -72,7 +72,7 @@ module _ (part s : ℕ) (job payload buffer : List ℕ) (served : (translate_of 
     room-is : Roomy m w
     room-is = subst (λ (t : List ℕ). Roomy m t) tape-is roomy
 
-    replay_unrefused : (replay_refusal part (length l) kept m w).number ≡ 0
+    replay_unrefused : replay_refusal part (length l) kept m w ≡ passes
     unfolding replay_refusal records_refusal tape_of ◌or_else◌ if◌then◌otherwise◌
     replay_unrefused =
         rw (known, eq-eqb (length l) (part_of part).size long, ready.formed, encode-whole rs ok, encode_unfaulted rs ok, room-is.roomy)

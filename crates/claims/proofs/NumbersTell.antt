@@ -1,30 +1,26 @@
 -- What the C answers leave out is told by their number: no number of a call that is served is the number of a refusal.
-use mathlib.Core.Path.{◌≡◌, refl, sym, ap, ◌∙◌}
+use Rattle.std.specs.Prelude.{Option, Some, None, Ok, Err}
+use Rattle.rules.specs.declared.Step.{Step}
+use mathlib.Core.Path.{◌≡◌, refl, sym, ap, ◌∙◌, subst}
 use mathlib.Core.Bool.{Bool, true, false, ◌&&◌, ◌||◌}
 use mathlib.Core.List.{List, [], ◌∷◌, ◌++◌}
 use mathlib.Core.Logic.{◌⊎◌, inl, inr, ⊎_elim}
 use Prim.Native.Nat.{ℕ, zero, suc, ◌≤◌}
-use native.Mathlib.Omega.{arith}
-use lib.Dec.{eqb}
 use lib.ListN.{length}
-use borrow.Author.Tests.{eq-eqb, eqb-false, le-leb}
+use borrow.Author.Tests.{eq-eqb, le-leb}
 use Rattle.lists.specs.Choice.{if◌then◌otherwise◌, ◌=?◌, ◌≤?◌}
-use Rattle.lists.proofs.Choice.{either_true, either_false, by_choice}
-use Rattle.lists.specs.declared.Found.{Found}
-use Rattle.lists.specs.declared.Found.TheVariants.{At, Nothing}
+use Rattle.lists.proofs.Choice.{either_true, either_false}
 use Rattle.rules.specs.declared.Kept.{Kept}
 use Rattle.rules.specs.declared.Meter.{Meter}
 use Rattle.rules.specs.declared.Regs.{Regs}
 use Rattle.rules.specs.declared.Refusal.{Refusal}
-use Rattle.rules.specs.declared.Decoded.{Decoded}
-use Rattle.rules.specs.declared.Decoded.TheVariants.{Good, Bad}
+use Rattle.rules.specs.declared.Refusal.TheVariants.{UnknownPart, ArrayLength, NotWellFormed, LongTransaction, LeftoverBits, ShortOutput, MeterFull, UnfitJob, StartSetting, StepOutside, StepBeyond, SmallBuffer, CutTape}
 use Rattle.rules.specs.declared.Kind.{Kind}
 use Rattle.rules.specs.Kinds.{code_of}
 use Rattle.rules.specs.Part.{Part}
 use Rattle.rules.specs.Parts.{part_of}
-use Rattle.rules.specs.Status.{regs_of}
-use Rattle.rules.specs.Refusals.{refusal, refusal_at, accepted, ◌or_else◌, transact_refusal, event_refusal}
-use Rattle.rules.specs.Transact.{TransactSeen, is_high, transact_of}
+use Rattle.rules.specs.Refusals.{number_of, Checked, passes, refused, ◌or_else◌, answered, transact_refusal, event_refusal}
+use Rattle.rules.specs.Transact.{TransactSeen, transact_of}
 use Rattle.rules.specs.Events.{finished, power_cycled}
 use Rattle.rules.specs.EventEntries.{EventTold, event_of, finish_of, power_cycle_of}
 use Rattle.rules.specs.Tape.{first_bad}
@@ -57,71 +53,69 @@ pub record Tells (Fine : ℕ → Type 0) (row : List ℕ) (served : Bool) (numbe
 
 -- ---- rows
 
+-- where a check refuses, its number stands in the row
+abbrev pub Stands : List ℕ → Checked → Type 0
+Stands row (Ok u) = Unit {0}
+Stands row (Err z) = InRow row (number_of z)
+
 later : (row ks : List ℕ) (n : ℕ) → InRow ks n → InRow (row ++ ks) n
 unfolding InRow
 later [] ks n h = h
 later (k ∷ row) ks n h = inr (later row ks n h)
 
--- a number of a row that ends with 0, but not that 0, is still there with another end
-earlier : (row ks : List ℕ) (n : ℕ) → (n ≡ 0 → ⊥) → InRow (row ++ (0 ∷ [])) n → InRow (row ++ ks) n
+earlier : (row ks : List ℕ) (n : ℕ) → InRow row n → InRow (row ++ ks) n
 unfolding InRow
-earlier [] ks n z h = ⊎_elim (λ e. absurd (z e)) (λ e. absurd e) h
-earlier (k ∷ row) ks n z h = ⊎_elim inl (λ e. inr (earlier row ks n z e)) h
+earlier [] ks n h = absurd h
+earlier (k ∷ row) ks n h = ⊎_elim inl (λ e. inr (earlier row ks n e)) h
+
+more : (k : ℕ) (ks : List ℕ) (c : Checked) → Stands ks c → Stands (k ∷ ks) c
+unfolding InRow
+more k ks (Ok u) h = tt
+more k ks (Err z) h = inr h
 
 -- a check adds its own number
-check : {S : Type 0} (number : S → ℕ) (t : Bool) (a w : S) (ks : List ℕ) → InRow ks (number w) → InRow (number a ∷ ks) (number (if t then a otherwise w))
+check : (t : Bool) (z : Refusal) (c : Checked) (ks : List ℕ) → Stands ks c → Stands (number_of z ∷ ks) (if t then refused z otherwise c)
 unfolding InRow if◌then◌otherwise◌
-check number true a w ks h = inl refl
-check number false a w ks h = inr h
+check true z c ks h = inl refl
+check false z c ks h = more (number_of z) ks c h
 
-abbrev num : Refusal → ℕ
-num z = z.number
+else_row : (row ks : List ℕ) (c d : Checked) → Stands row c → Stands ks d → Stands (row ++ ks) (c or_else d)
+unfolding ◌or_else◌
+else_row row ks (Ok u) (Ok v) h k = tt
+else_row row ks (Ok u) (Err y) h k = later row ks (number_of y) k
+else_row row ks (Err z) d h k = earlier row ks (number_of z) h
 
-no_refusal : InRow (0 ∷ []) 0
-unfolding InRow
-no_refusal = inl refl
-
-else_row : (row ks : List ℕ) (z y : Refusal) → InRow (row ++ (0 ∷ [])) z.number → InRow ks y.number → InRow (row ++ ks) (z or_else y).number
-unfolding ◌or_else◌ if◌then◌otherwise◌
-else_row row ks z y h k = go (eqb z.number 0) refl
-  where
-    go : (t : Bool) → eqb z.number 0 ≡ t → InRow (row ++ ks) (if t then y otherwise z).number
-    go true e = later row ks y.number k
-    go false e = earlier row ks z.number (eqb-false z.number 0 e) h
+same_row : (row : List ℕ) (c d : Checked) → Stands row c → Stands row d → Stands row (c or_else d)
+unfolding ◌or_else◌
+same_row row (Ok u) d h k = k
+same_row row (Err z) d h k = h
 
 -- ---- an entry answers a where it does not refuse, and else b
 
-tells : {S : Type 0} (served : S → Bool) (number : S → ℕ) (Fine : ℕ → Type 0) (row : List ℕ) (z : Refusal) (a b : S)
-    → served a ≡ true → Fine (number a) → served b ≡ false → number b ≡ z.number → InRow (row ++ (0 ∷ [])) z.number
-    → Tells Fine (row ++ []) (served (if accepted z then a otherwise b)) (number (if accepted z then a otherwise b))
-unfolding if◌then◌otherwise◌
-tells served number Fine row z a b fa fine fb same h = go (eqb z.number 0) refl
-  where
-    go : (t : Bool) → eqb z.number 0 ≡ t → Tells Fine (row ++ []) (served (if t then a otherwise b)) (number (if t then a otherwise b))
-    go true e = record { of_served = λ q. fine; of_refused = λ q. never (sym fa ∙ q) }
-    go false e =
-        record {
-          of_served = λ q. never (sym q ∙ fb);
-          of_refused = λ q. rw same (earlier row [] z.number (eqb-false z.number 0 e) h);
-        }
+tells : {S : Type 0} (served : S → Bool) (number : S → ℕ) (Fine : ℕ → Type 0) (row : List ℕ) (c : Checked) (a : S) (b : Refusal → S)
+    → served a ≡ true → Fine (number a) → ((z : Refusal) → served (b z) ≡ false) → ((z : Refusal) → number (b z) ≡ number_of z) → Stands row c
+    → Tells Fine row (served (answered c a b)) (number (answered c a b))
+unfolding answered
+tells served number Fine row (Ok u) a b fa fine fb same h = record { of_served = λ q. fine; of_refused = λ q. never (sym fa ∙ q) }
+tells served number Fine row (Err z) a b fa fine fb same h = record { of_served = λ q. never (sym q ∙ fb z); of_refused = λ q. rw (same z) h }
 
 -- ---- transact: 0 or 10 to 16 against 1 to 7
 
-pub transact_row : (part al : ℕ) (kept : Kept) (n x ol : ℕ) (m : Meter) → InRow (1 ∷ 2 ∷ 3 ∷ 4 ∷ 5 ∷ 6 ∷ 7 ∷ 0 ∷ []) (transact_refusal part al kept n x ol m).number
+pub transact_row : (part al : ℕ) (kept : Kept) (n x ol : ℕ) (m : Meter) → Stands (1 ∷ 2 ∷ 3 ∷ 4 ∷ 5 ∷ 6 ∷ 7 ∷ []) (transact_refusal part al kept n x ol m)
 unfolding transact_refusal
 transact_row part al kept n x ol m =
-    check num _ (refusal 1) _ _ (check num _ (refusal 2) _ _ (check num _ (refusal 3) _ _ (check num _ (refusal 4) _ _
-    (check num _ (refusal 5) _ _ (check num _ (refusal 6) _ _ (check num _ (refusal 7) _ _ no_refusal))))))
+    check _ UnknownPart _ _ (check _ ArrayLength _ _ (check _ NotWellFormed _ _ (check _ LongTransaction _ _
+    (check _ LeftoverBits _ _ (check _ ShortOutput _ _ (check _ MeterFull passes [] tt))))))
 
 pub transact_number_tells : (part : ℕ) (kept : Kept) (m : Meter) (l o b : List ℕ) (x wp : ℕ)
     → Tells VerdictNumber (1 ∷ 2 ∷ 3 ∷ 4 ∷ 5 ∷ 6 ∷ 7 ∷ []) (transact_of part kept m l o b x wp).answer.served (transact_of part kept m l o b x wp).answer.number
 transact_number_tells part kept m l o b x wp =
     by_answer part kept m l o b x wp (λ s. Tells VerdictNumber (1 ∷ 2 ∷ 3 ∷ 4 ∷ 5 ∷ 6 ∷ 7 ∷ []) s.answer.served s.answer.number)
     (λ c k e. record { of_served = λ q. inl refl; of_refused = never })
-    (λ c w e. record { of_served = λ q. inr (ignored-number (part_of part) (regs_of kept) b x (is_high wp) w e); of_refused = never })
-    (λ h k. record {
+    (λ c w e. record { of_served = λ q. inr (ignored-number w); of_refused = never })
+    (λ z e h k. record {
       of_served = λ q. never (sym q);
-      of_refused = λ q. earlier (1 ∷ 2 ∷ 3 ∷ 4 ∷ 5 ∷ 6 ∷ 7 ∷ []) [] _ (λ n. omega arith) (transact_row part (length l) kept (length b) x (length o) m);
+      of_refused = λ q. subst (Stands (1 ∷ 2 ∷ 3 ∷ 4 ∷ 5 ∷ 6 ∷ 7 ∷ [])) e (transact_row part (length l) kept (length b) x (length o) m);
     })
 
 -- ---- finish and power cycle: 0 against 1 and 3
@@ -130,8 +124,8 @@ event_tells : (part : ℕ) (kept : Kept) (makes : Regs → Regs)
     → Tells Zero (1 ∷ 3 ∷ []) (event_of part kept makes).served (event_of part kept makes).number
 unfolding event_of event_refusal
 event_tells part kept makes =
-    tells (λ (t : EventTold). t.served) (λ (t : EventTold). t.number) Zero (1 ∷ 3 ∷ []) (event_refusal part kept) _ _ refl refl refl refl
-    (check num _ (refusal 1) _ _ (check num _ (refusal 3) _ _ no_refusal))
+    tells (λ (t : EventTold). t.served) (λ (t : EventTold). t.number) Zero (1 ∷ 3 ∷ []) (event_refusal part kept) _ _ refl refl (λ z. refl) (λ z. refl)
+    (check _ UnknownPart _ _ (check _ NotWellFormed passes [] tt))
 
 pub finish_number_tells : (part : ℕ) (kept : Kept) → Tells Zero (1 ∷ 3 ∷ []) (finish_of part kept).served (finish_of part kept).number
 unfolding finish_of
@@ -143,23 +137,23 @@ power_cycle_number_tells part kept = event_tells part kept power_cycled
 
 -- ---- replay, of all records or of the first k: 0 against 1, 2, 3, 30, 31 and 7
 
-bad_row : (f : Found) → InRow (31 ∷ 0 ∷ []) (bad_record f).number
+bad_row : (f : Option ℕ) → Stands (31 ∷ []) (bad_record f)
 unfolding InRow
-bad_row (At i) = inl refl
-bad_row Nothing = inr (inl refl)
+bad_row (Some i) = inl refl
+bad_row None = tt
 
-replay_row : (part al : ℕ) (kept : Kept) (m : Meter) (t : List ℕ) → InRow (1 ∷ 2 ∷ 3 ∷ 30 ∷ 31 ∷ 7 ∷ 0 ∷ []) (replay_refusal part al kept m t).number
+replay_row : (part al : ℕ) (kept : Kept) (m : Meter) (t : List ℕ) → Stands (1 ∷ 2 ∷ 3 ∷ 30 ∷ 31 ∷ 7 ∷ []) (replay_refusal part al kept m t)
 unfolding replay_refusal records_refusal
 replay_row part al kept m t =
-    check num _ (refusal 1) _ _ (check num _ (refusal 2) _ _ (check num _ (refusal 3) _ _ (check num _ (refusal 30) _ _
-    (else_row (31 ∷ []) (7 ∷ 0 ∷ []) (bad_record (first_bad t)) _ (bad_row (first_bad t)) (check num _ (refusal 7) _ _ no_refusal)))))
+    check _ UnknownPart _ _ (check _ ArrayLength _ _ (check _ NotWellFormed _ _ (check _ CutTape _ _
+    (else_row (31 ∷ []) (7 ∷ []) (bad_record (first_bad t)) _ (bad_row (first_bad t)) (check _ MeterFull passes [] tt)))))
 
 pub replay_first_number_tells : (part : ℕ) (kept : Kept) (m : Meter) (l t : List ℕ) (k : ℕ)
     → Tells Zero (1 ∷ 2 ∷ 3 ∷ 30 ∷ 31 ∷ 7 ∷ []) (replay_first_of part kept m l t k).answer.served (replay_first_of part kept m l t k).answer.number
 unfolding replay_first_of replay_served replay_refused
 replay_first_number_tells part kept m l t k =
     tells (λ (s : ReplaySeen). s.answer.served) (λ (s : ReplaySeen). s.answer.number) Zero (1 ∷ 2 ∷ 3 ∷ 30 ∷ 31 ∷ 7 ∷ [])
-    (replay_refusal part (length l) kept m t) _ _ refl refl refl refl (replay_row part (length l) kept m t)
+    (replay_refusal part (length l) kept m t) _ _ refl refl (λ z. refl) (λ z. refl) (replay_row part (length l) kept m t)
 
 pub replay_number_tells : (part : ℕ) (kept : Kept) (m : Meter) (l t : List ℕ)
     → Tells Zero (1 ∷ 2 ∷ 3 ∷ 30 ∷ 31 ∷ 7 ∷ []) (replay_of part kept m l t).answer.served (replay_of part kept m l t).answer.number
@@ -168,46 +162,46 @@ replay_number_tells part kept m l t = replay_first_number_tells part kept m l t 
 
 -- ---- translate and quote: 0 against 1, 20 to 25, and 26 of translate alone
 
-shield_row : (i : ℕ) (f : Found) → InRow (25 ∷ 0 ∷ []) (shielded i f).number
+shield_row : (i : ℕ) (f : Option ℕ) → Stands (25 ∷ []) (shielded i f)
 unfolding InRow
-shield_row i (At x) = inl refl
-shield_row i Nothing = inr (inl refl)
+shield_row i (Some x) = inl refl
+shield_row i None = tt
 
-decoded_row : (p : Part) (s pl i : ℕ) (d : Decoded) → InRow (22 ∷ 23 ∷ 24 ∷ 25 ∷ 0 ∷ []) (decoded_refusal p s pl i d).number
+decoded_row : (p : Part) (s pl i : ℕ) (d : Option Step) → Stands (22 ∷ 23 ∷ 24 ∷ 25 ∷ []) (decoded_refusal p s pl i d)
 unfolding InRow step_refusal
-decoded_row p s pl i Bad = inl refl
-decoded_row p s pl i (Good w) =
-    inr
-    (check num (outside p w) (refusal_at 23 i) _ (24 ∷ 25 ∷ 0 ∷ [])
-    (check num (beyond pl w) (refusal_at 24 i) (shielded i (first_shielded p s w)) (25 ∷ 0 ∷ []) (shield_row i (first_shielded p s w))))
+decoded_row p s pl i None = inl refl
+decoded_row p s pl i (Some w) =
+    more 22 (23 ∷ 24 ∷ 25 ∷ []) _
+    (check (outside p w) (StepOutside i) _ (24 ∷ 25 ∷ [])
+    (check (beyond pl w) (StepBeyond i) _ (25 ∷ []) (shield_row i (first_shielded p s w))))
 
-steps_row : (p : Part) (s pl : ℕ) (job : List ℕ) (i n : ℕ) → InRow (22 ∷ 23 ∷ 24 ∷ 25 ∷ 0 ∷ []) (steps_refusal p s pl job i n).number
-unfolding steps_refusal ◌or_else◌
-steps_row p s pl job i zero = later (22 ∷ 23 ∷ 24 ∷ 25 ∷ []) (0 ∷ []) 0 no_refusal
+steps_row : (p : Part) (s pl : ℕ) (job : List ℕ) (i n : ℕ) → Stands (22 ∷ 23 ∷ 24 ∷ 25 ∷ []) (steps_refusal p s pl job i n)
+unfolding steps_refusal
+steps_row p s pl job i zero = tt
 steps_row p s pl job i (suc n) =
-    by_choice (λ (z : Refusal). InRow (22 ∷ 23 ∷ 24 ∷ 25 ∷ 0 ∷ []) z.number) _ _ _
-    (steps_row p (setting_after s (step_at job i)) pl job (suc i) n) (decoded_row p s pl i (step_at job i))
+    same_row (22 ∷ 23 ∷ 24 ∷ 25 ∷ []) (decoded_refusal p s pl i (step_at job i)) _ (decoded_row p s pl i (step_at job i))
+    (steps_row p (setting_after s (step_at job i)) pl job (suc i) n)
 
-job-row : (part s : ℕ) (job : List ℕ) (pl : ℕ) → InRow (1 ∷ 20 ∷ 21 ∷ 22 ∷ 23 ∷ 24 ∷ 25 ∷ 0 ∷ []) (job_refusal part s job pl).number
+job-row : (part s : ℕ) (job : List ℕ) (pl : ℕ) → Stands (1 ∷ 20 ∷ 21 ∷ 22 ∷ 23 ∷ 24 ∷ 25 ∷ []) (job_refusal part s job pl)
 unfolding job_refusal
 job-row part s job pl =
-    check num _ (refusal 1) _ _ (check num _ (refusal 20) _ _ (check num _ (refusal 21) _ _ (steps_row (part_of part) s pl job 0 (step_count job))))
+    check _ UnknownPart _ _ (check _ UnfitJob _ _ (check _ StartSetting _ _ (steps_row (part_of part) s pl job 0 (step_count job))))
 
 pub translate_number_tells : (part s : ℕ) (job payload tape : List ℕ)
     → Tells Zero (1 ∷ 20 ∷ 21 ∷ 22 ∷ 23 ∷ 24 ∷ 25 ∷ 26 ∷ []) (translate_of part s job payload tape).answer.served (translate_of part s job payload tape).answer.number
 unfolding translate_of translate_refusal
 translate_number_tells part s job payload tape =
     tells (λ (w : TranslateSeen). w.answer.served) (λ (w : TranslateSeen). w.answer.number) Zero (1 ∷ 20 ∷ 21 ∷ 22 ∷ 23 ∷ 24 ∷ 25 ∷ 26 ∷ [])
-    (translate_refusal part s job payload (length tape)) _ _ refl refl refl refl
-    (else_row (1 ∷ 20 ∷ 21 ∷ 22 ∷ 23 ∷ 24 ∷ 25 ∷ []) (26 ∷ 0 ∷ []) (job_refusal part s job (length payload)) _ (job-row part s job (length payload))
-    (check num _ (refusal 26) _ _ no_refusal))
+    (translate_refusal part s job payload (length tape)) _ _ refl refl (λ z. refl) (λ z. refl)
+    (else_row (1 ∷ 20 ∷ 21 ∷ 22 ∷ 23 ∷ 24 ∷ 25 ∷ []) (26 ∷ []) (job_refusal part s job (length payload)) _ (job-row part s job (length payload))
+    (check _ SmallBuffer passes [] tt))
 
 pub quote_number_tells : (part s : ℕ) (job : List ℕ) (pl : ℕ)
     → Tells Zero (1 ∷ 20 ∷ 21 ∷ 22 ∷ 23 ∷ 24 ∷ 25 ∷ []) (quote_of part s job pl).served (quote_of part s job pl).number
 unfolding quote_of
 quote_number_tells part s job pl =
     tells (λ (t : BillTold). t.served) (λ (t : BillTold). t.number) Zero (1 ∷ 20 ∷ 21 ∷ 22 ∷ 23 ∷ 24 ∷ 25 ∷ [])
-    (job_refusal part s job pl) _ _ refl refl refl refl (job-row part s job pl)
+    (job_refusal part s job pl) _ _ refl refl (λ z. refl) (λ z. refl) (job-row part s job pl)
 
 -- ---- so that `served` can be had back from the number
 

@@ -1,4 +1,5 @@
 -- A whole tape read through the reader: its k-th read answers record k, and every read after the last answers the end.
+use Rattle.std.specs.Prelude.{Some, None, Ok}
 use mathlib.Core.Path.{◌≡◌, refl, sym, ap, ◌∙◌}
 use mathlib.Core.Bool.{Bool, true, false}
 use mathlib.Core.List.{List}
@@ -8,14 +9,13 @@ use native.Mathlib.Numerals.{add-one}
 use lib.Dec.{leb}
 use borrow.Author.Tests.{le-leb, leb-true, leb-false}
 use Rattle.lists.specs.Choice.{if◌then◌otherwise◌}
-use Rattle.rules.specs.declared.AtPlace.{AtPlace}
-use Rattle.rules.specs.declared.AtPlace.TheVariants.{End}
+use Rattle.rules.specs.declared.Record.{Record}
 use Rattle.rules.specs.Tape.{rec_at, records, whole, good_record}
-use Rattle.rules.specs.Reading.{read_at, next_place, read_of}
+use Rattle.rules.specs.Reading.{said_at, AtPlace, read_at, next_place, read_of}
 use Rattle.tape.specs.declared.Reader.{Reader}
 use Rattle.tape.specs.Record.{rec_of}
 use Rattle.tape.specs.Moves.{told, found, after}
-use Rattle.tape.proofs.Said.{read_said, said_rec, read_is, said_moves, next-told}
+use Rattle.tape.proofs.Said.{read_said, said_rec, read_is, next-told}
 
 -- the reader after k reads
 unfoldable pub after_reads : ℕ → Reader → Reader
@@ -55,19 +55,22 @@ module _ (r : Reader) (start : r.place ≡ 0) (clean : Clean r.bytes.now) where
       moves (after_reads k r)
       ∙ (λ i. next_place (ih i) (read_at (same_bytes k i).now (ih i)))
       ∙ ap (next_place k) (read_said t k clean.whole_records (omega arith) (clean.good k (omega arith)))
-      ∙ said_moves t k ∙ add-one k
+      ∙ add-one k
 
-  -- the k-th read gives record k of the core
+  -- the k-th read gives a record, and it is record k of the core
   pub read_through : (k : ℕ) → k < records r.bytes.now → (a : AtPlace) → told (after_reads k r) a ≡ found (after_reads k r)
-      → rec_of r.bytes.now a ≡ rec_at r.bytes.now k
+      → (said : Record) × (a ≡ Ok (Some said)) × (rec_of r.bytes.now said ≡ rec_at r.bytes.now k)
   read_through k h a e =
-      let t = r.bytes.now in
-      ap (rec_of t) (answer-is (after_reads k r) a e)
-      ∙ (λ i. rec_of t (read_at (same_bytes k i).now (place_is k (omega arith) i)))
-      ∙ ap (rec_of t) (read_said t k clean.whole_records h (clean.good k h)) ∙ sym (said_rec t k)
+      let t = r.bytes.now in (
+        said_at t k,
+        answer-is (after_reads k r) a e
+            ∙ (λ i. read_at (same_bytes k i).now (place_is k (omega arith) i))
+            ∙ read_said t k clean.whole_records h (clean.good k h),
+        sym (said_rec t k),
+      )
 
   -- a read at the place after the last record gives the end
-  at_end : (k : ℕ) → (after_reads k r).place ≡ records r.bytes.now → answer (after_reads k r) ≡ End
+  at_end : (k : ℕ) → (after_reads k r).place ≡ records r.bytes.now → answer (after_reads k r) ≡ Ok None
   unfolding read_at if◌then◌otherwise◌
   at_end k e =
       let n = records r.bytes.now in
@@ -91,5 +94,5 @@ module _ (r : Reader) (start : r.place ≡ 0) (clean : Clean r.bytes.now) where
           place_is (suc k) (omega arith) ∙ omega arith
 
   -- every read after the last record gives the end
-  pub read_end : (k : ℕ) → records r.bytes.now ≤ k → (a : AtPlace) → told (after_reads k r) a ≡ found (after_reads k r) → a ≡ End
+  pub read_end : (k : ℕ) → records r.bytes.now ≤ k → (a : AtPlace) → told (after_reads k r) a ≡ found (after_reads k r) → a ≡ Ok None
   read_end k h a e = answer-is (after_reads k r) a e ∙ at_end k (rests k h)

@@ -74,4 +74,4 @@ array_as_long_lent part kept m l o b x wp =
     (λ j q. ap length (q.writes_nothing (List ℕ) l (array_written p l b (address_of p b))))
     (written_length p (part_sound part) l b (address_of p b) c.begun.long (address_inside p (part_sound part) b)) k)
     (λ c w e. refl)
-    (λ h k. refl)
+    (λ z e h k. refl)

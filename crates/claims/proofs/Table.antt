@@ -1,4 +1,5 @@
 -- The table of commands decides: what a row says of its code is what the chip goes by.
+use Rattle.std.specs.Prelude.{Some, None}
 use mathlib.Core.Path.{◌≡◌, refl, ap}
 use mathlib.Core.Bool.{true, ◌&&◌}
 use mathlib.Core.Logic.{◌⊎◌, ⊎_map, ◌↔◌}
@@ -7,13 +8,11 @@ use Prim.Native.Nat.{ℕ, ◌≤◌}
 use borrow.Author.Tests.{eqb-true, eq-eqb, leb-true, le-leb}
 use Rattle.lists.specs.Choice.{◌=?◌}
 use Rattle.lists.proofs.Choice.{both_true, either_true}
-use Rattle.rules.specs.declared.Command.TheVariants.{Known, Unknown}
 use Rattle.rules.specs.declared.Bytes.{Bytes}
 use Rattle.rules.specs.declared.Bytes.TheVariants.{Exactly, Either, OrMore}
 use Rattle.rules.specs.declared.Leftover.{Leftover}
 use Rattle.rules.specs.declared.Leftover.TheVariants.{NoBits, AnyBits}
 use Rattle.rules.specs.declared.Row.{Row}
-use Rattle.rules.specs.declared.Listed.TheVariants.{Line}
 use Rattle.rules.specs.Part.{Part, takes, leaves, row_of, command_by, command_of, shaped}
 use Rattle.laws.proofs.Rows.{Each, Unlisted, end, ◌⊳◌, no_row, rows_found}
 use Rattle.laws.proofs.Sound.{Sound}
@@ -51,13 +50,13 @@ rule b y n x = (
 -- the code of a row says the row's kind, and its byte count and leftover bits are right where the row has them so
 abbrev pub Decides : Part → Row → Type 0
 Decides p w =
-    (command_of p w.code ≡ Known w.kind)
+    (command_of p w.code ≡ Some w.kind)
     × ((n x : ℕ) → shaped p w.code n x ≡ true ↔ Takes w.bytes n × Leaves w.leftover x)
 
-found_decides : (p : Part) (w : Row) → row_of p w.code ≡ Line w → Decides p w
+found_decides : (p : Part) (w : Row) → row_of p w.code ≡ Some w → Decides p w
 found_decides p w e = (ap command_by e, λ n x. rw e (rule w.bytes w.leftover n x))
 
-all_decide : (p : Part) (ws : List Row) → Each (λ w. row_of p w.code ≡ Line w) ws → Each (Decides p) ws
+all_decide : (p : Part) (ws : List Row) → Each (λ w. row_of p w.code ≡ Some w) ws → Each (Decides p) ws
 all_decide p [] end = end
 all_decide p (w ∷ ws) (h ⊳ hs) = found_decides p w h ⊳ all_decide p ws hs
 
@@ -67,6 +66,6 @@ unfolding row_of
 rows_decide p sound = all_decide p p.commands (rows_found p.commands sound.has_distinct_codes)
 
 -- a code that no row has is unknown: 12
-pub unlisted_is_unknown : (p : Part) (op : ℕ) → Unlisted op p.commands → command_of p op ≡ Unknown
+pub unlisted_is_unknown : (p : Part) (op : ℕ) → Unlisted op p.commands → command_of p op ≡ None
 unfolding row_of
 unlisted_is_unknown p op h = ap command_by (no_row op p.commands h)

@@ -1,24 +1,22 @@
 -- Refused only for document 01's reasons, both ways: `translate` refuses with n at i exactly where the table's line for n holds
 -- at i, and is served exactly where no line holds. `quote` is the same without 26.
+use Rattle.std.specs.Prelude.{Ok, Err}
 use mathlib.Core.Path.{◌≡◌, refl, sym, ap, ◌∙◌, subst}
-use mathlib.Core.Bool.{Bool, true, false}
+use mathlib.Core.Bool.{false}
 use mathlib.Core.List.{List}
 use mathlib.Core.Logic.{◌↔◌}
 use Prim.Native.Nat.{ℕ}
 use native.Mathlib.Omega.{arith}
 use lib.ListN.{length}
-use borrow.Author.Tests.{eqb-true, eqb-false}
-use Rattle.rules.specs.declared.Refusal.{Refusal}
-use Rattle.rules.specs.declared.Quoted.TheVariants.{Refused}
 use Rattle.rules.specs.Parts.{part_of}
-use Rattle.rules.specs.Refusals.{refusal_at, accepted}
+use Rattle.rules.specs.Refusals.{number_of, index_of, Checked, passes}
 use Rattle.rules.specs.JobRefusals.{job_refusal}
 use Rattle.rules.specs.Bill.{no_bill}
-use Rattle.rules.specs.Translate.{tape_of, TranslateSeen, translate_seen, translate_of, BillTold, quote_told, quote_of}
+use Rattle.rules.specs.Translate.{tape_of, TranslateSeen, translate_seen, translate_of, BillTold, quote_of}
 use Rattle.translate.proofs.Answer.{translate_refused, translate_small}
 use Rattle.translate.proofs.Whole.{tape-long}
-use Rattle.claims.specs.TurnedAway.{JobTurnedAway, TurnedAway, for_job, for_26}
-use Rattle.claims.proofs.Choices.{never}
+use Rattle.claims.specs.TurnedAway.{Refuses, JobTurnedAway, TurnedAway, for_job, for_26}
+use Rattle.claims.proofs.Choices.{never, refuses_told}
 use Rattle.claims.proofs.Translated.{by_translation, quote_billed, quote_refused}
 use Rattle.claims.proofs.JobRefused.{job_refused_exactly, job_taken_exactly}
 
@@ -29,20 +27,22 @@ abbrev pub refused_with : ℕ → ℕ → List ℕ → TranslateSeen
 refused_with n i buffer = translate_seen (record { served = false; number = n; index = i; length = 0 }) buffer
 
 module _ (part s : ℕ) (job payload buffer : List ℕ) where
-  abbrev z : Refusal
-  z = job_refusal part s job (length payload)
+  abbrev c : Checked
+  c = job_refusal part s job (length payload)
 
   abbrev Reason : ℕ → ℕ → Type 0
   Reason n i = TurnedAway part s job payload (length buffer) n i
 
   -- the tape of an accepted job is as long as the quote says
-  long : z.number ≡ 0 → length (tape_of (part_of part) job payload) ≡ (quote_of part s job (length payload)).bill.length
+  long : c ≡ passes → length (tape_of (part_of part) job payload) ≡ (quote_of part s job (length payload)).bill.length
   long e = tape-long part s job payload e ∙ ap (λ (t : BillTold). t.bill.length) (sym (quote_billed part s job (length payload) e))
 
   reason_refused : (n i : ℕ) → Reason n i → translate_of part s job payload buffer ≡ refused_with n i buffer
-  reason_refused n i (for_job k j h) =
-      let q = (job_refused_exactly part s job (length payload) k j).1 h in
-      sym (translate_refused part s job payload buffer (refusal_at k j) (sym q.0) q.1)
+  reason_refused n i (for_job k j h) = go c refl ((job_refused_exactly part s job (length payload) k j).1 h)
+    where
+      go : (d : Checked) → c ≡ d → Refuses d k j → translate_of part s job payload buffer ≡ refused_with k j buffer
+      go (Ok u) e q = absurd q
+      go (Err z) e q = sym (translate_refused part s job payload buffer z e) ∙ (λ t. refused_with (q.0 t) (q.1 t) buffer)
   reason_refused n i (for_26 none short) =
       let e = (job_taken_exactly part s job (length payload)).1 none in
       sym (translate_small part s job payload buffer e (omega (arith, long e)))
@@ -52,7 +52,11 @@ module _ (part s : ℕ) (job payload buffer : List ℕ) where
       by_translation part s job payload buffer (λ v. v.answer.served ≡ false → (n : ℕ) × (i : ℕ) × Reason n i)
       (λ e h q. never q)
       (λ e h q. (26, 0, for_26 ((job_taken_exactly part s job (length payload)).0 e) (omega (arith, long e))))
-      (λ e q. (z.number, z.index, for_job z.number z.index ((job_refused_exactly part s job (length payload) z.number z.index).0 (refl, e))))
+      (λ z e q. (
+        number_of z,
+        index_of z,
+        for_job (number_of z) (index_of z) ((job_refused_exactly part s job (length payload) (number_of z) (index_of z)).0 (refuses_told c z e)),
+      ))
 
   -- not served exactly where a line of the table holds
   pub refused_for_a_reason : (translate_of part s job payload buffer).answer.served ≡ false ↔ (n : ℕ) × (i : ℕ) × TurnedAway part s job payload (length buffer) n i
@@ -70,22 +74,23 @@ module _ (part s : ℕ) (job payload buffer : List ℕ) where
 -- ---- quote
 
 module _ (part s : ℕ) (job : List ℕ) (payload_length : ℕ) where
-  abbrev y : Refusal
-  y = job_refusal part s job payload_length
+  abbrev d : Checked
+  d = job_refusal part s job payload_length
 
   reason_unquoted : (n i : ℕ) → JobTurnedAway part s job payload_length n i
       → quote_of part s job payload_length ≡ record { served = false; number = n; index = i; bill = no_bill }
-  reason_unquoted n i h =
-      let q = (job_refused_exactly part s job payload_length n i).1 h in
-      quote_refused part s job payload_length (λ e. q.1 (sym (ap (λ (w : Refusal). w.number) q.0) ∙ e))
-      ∙ ap (λ (w : Refusal). quote_told (Refused w)) q.0
+  reason_unquoted n i h = go d refl ((job_refused_exactly part s job payload_length n i).1 h)
+    where
+      go : (e : Checked) → d ≡ e → Refuses e n i → quote_of part s job payload_length ≡ record { served = false; number = n; index = i; bill = no_bill }
+      go (Ok u) f q = absurd q
+      go (Err z) f q = quote_refused part s job payload_length z f ∙ (λ t. record { served = false; number = q.0 t; index = q.1 t; bill = no_bill })
 
   unquoted : (quote_of part s job payload_length).served ≡ false → (n : ℕ) × (i : ℕ) × JobTurnedAway part s job payload_length n i
-  unquoted e = go (accepted y) refl
+  unquoted e = go d refl
     where
-      go : (t : Bool) → accepted y ≡ t → (n : ℕ) × (i : ℕ) × JobTurnedAway part s job payload_length n i
-      go true f = never (sym (ap (λ (t : BillTold). t.served) (quote_billed part s job payload_length (eqb-true y.number 0 f))) ∙ e)
-      go false f = (y.number, y.index, (job_refused_exactly part s job payload_length y.number y.index).0 (refl, eqb-false y.number 0 f))
+      go : (c : Checked) → d ≡ c → (n : ℕ) × (i : ℕ) × JobTurnedAway part s job payload_length n i
+      go (Ok u) f = never (sym (ap (λ (t : BillTold). t.served) (quote_billed part s job payload_length f)) ∙ e)
+      go (Err z) f = (number_of z, index_of z, (job_refused_exactly part s job payload_length (number_of z) (index_of z)).0 (refuses_told d z f))
 
   pub quote_refused_for_a_reason : (quote_of part s job payload_length).served ≡ false ↔ (n : ℕ) × (i : ℕ) × JobTurnedAway part s job payload_length n i
   quote_refused_for_a_reason = (unquoted, λ h. ap (λ (t : BillTold). t.served) (reason_unquoted h.0 h.1 h.2))

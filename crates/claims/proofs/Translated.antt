@@ -1,16 +1,16 @@
 -- The entries `translate` and `quote` taken apart, by the job's refusal and by the room in the tape buffer.
+use Rattle.std.specs.Prelude.{Ok, Err}
 use mathlib.Core.Path.{◌≡◌, refl, subst}
 use mathlib.Core.Bool.{Bool, true, false}
 use mathlib.Core.List.{List, ◌++◌}
 use Prim.Native.Nat.{ℕ, ◌≤◌, ◌<◌}
 use lib.ListN.{length, drop}
-use borrow.Author.Tests.{eqb-true, eqb-false, eq-eqb, ne_eqb, ltb-true, ltb-false}
-use Rattle.lists.specs.Choice.{if◌then◌otherwise◌, ◌<?◌}
+use borrow.Author.Tests.{ltb-true, ltb-false}
+use Rattle.lists.specs.Choice.{◌<?◌}
 use Rattle.rules.specs.declared.Refusal.{Refusal}
-use Rattle.rules.specs.declared.Translated.TheVariants as T
-use Rattle.rules.specs.declared.Quoted.TheVariants as Q
+use Rattle.rules.specs.declared.Refusal.TheVariants.{SmallBuffer}
 use Rattle.rules.specs.Parts.{part_of}
-use Rattle.rules.specs.Refusals.{refusal, accepted}
+use Rattle.rules.specs.Refusals.{Checked, passes, refused, answered}
 use Rattle.rules.specs.Job.{steps_of}
 use Rattle.rules.specs.JobRefusals.{job_refusal}
 use Rattle.rules.specs.Bill.{bill_of}
@@ -18,38 +18,34 @@ use Rattle.rules.specs.Translate.{tape_of, TranslateSeen, translate_told, transl
 use Rattle.translate.proofs.Answer.{translate_refused, translate_small, translate_served}
 
 module _ (part s : ℕ) (job payload buffer : List ℕ) where
-  abbrev z : Refusal
-  z = job_refusal part s job (length payload)
+  abbrev c : Checked
+  c = job_refusal part s job (length payload)
 
   -- the tape of the job
   abbrev w : List ℕ
   w = tape_of (part_of part) job payload
 
   pub by_translation : (P : TranslateSeen → Type 0)
-      → (z.number ≡ 0 → length w ≤ length buffer → P (translate_seen (translate_told (T.Written (length w))) (w ++ drop (length w) buffer)))
-      → (z.number ≡ 0 → length buffer < length w → P (translate_seen (translate_told (T.Refused (refusal 26))) buffer))
-      → ((z.number ≡ 0 → ⊥) → P (translate_seen (translate_told (T.Refused z)) buffer))
+      → (c ≡ passes → length w ≤ length buffer → P (translate_seen (translate_told (Ok (length w))) (w ++ drop (length w) buffer)))
+      → (c ≡ passes → length buffer < length w → P (translate_seen (translate_told (Err SmallBuffer)) buffer))
+      → ((z : Refusal) → c ≡ refused z → P (translate_seen (translate_told (Err z)) buffer))
       → P (translate_of part s job payload buffer)
-  by_translation P written small refused = go (accepted z) refl (length buffer <? length w) refl
+  by_translation P written small turned_away = go c refl (length buffer <? length w) refl
     where
-      go : (t : Bool) → accepted z ≡ t → (u : Bool) → (length buffer <? length w) ≡ u → P (translate_of part s job payload buffer)
-      go true e true f =
-          let q = eqb-true z.number 0 e in
+      go : (d : Checked) → c ≡ d → (u : Bool) → (length buffer <? length w) ≡ u → P (translate_of part s job payload buffer)
+      go (Ok t) e true f =
           let h = ltb-true (length buffer) (length w) f in
-          subst P (translate_small part s job payload buffer q h) (small q h)
-      go true e false f =
-          let q = eqb-true z.number 0 e in
+          subst P (translate_small part s job payload buffer e h) (small e h)
+      go (Ok t) e false f =
           let h = ltb-false (length buffer) (length w) f in
-          subst P (translate_served part s job payload buffer q h) (written q h)
-      go false e u f =
-          let q = eqb-false z.number 0 e in
-          subst P (translate_refused part s job payload buffer z refl q) (refused q)
+          subst P (translate_served part s job payload buffer e h) (written e h)
+      go (Err z) e u f = subst P (translate_refused part s job payload buffer z e) (turned_away z e)
 
 module _ (part s : ℕ) (job : List ℕ) (payload_length : ℕ) where
-  pub quote_billed : (job_refusal part s job payload_length).number ≡ 0 → quote_of part s job payload_length ≡ quote_told (Q.Billed (bill_of (steps_of job)))
-  unfolding quote_of if◌then◌otherwise◌
-  quote_billed e = rw (eq-eqb _ 0 e)
+  pub quote_billed : job_refusal part s job payload_length ≡ passes → quote_of part s job payload_length ≡ quote_told (Ok (bill_of (steps_of job)))
+  unfolding quote_of answered
+  quote_billed e = rw e
 
-  pub quote_refused : ((job_refusal part s job payload_length).number ≡ 0 → ⊥) → quote_of part s job payload_length ≡ quote_told (Q.Refused (job_refusal part s job payload_length))
-  unfolding quote_of if◌then◌otherwise◌
-  quote_refused h = rw (ne_eqb _ 0 h)
+  pub quote_refused : (z : Refusal) → job_refusal part s job payload_length ≡ refused z → quote_of part s job payload_length ≡ quote_told (Err z)
+  unfolding quote_of answered
+  quote_refused z e = rw e

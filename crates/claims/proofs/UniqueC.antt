@@ -12,8 +12,7 @@ use Rattle.tunebriar.specs.declared.TbTape.{TbTape}
 use Rattle.tunebriar.specs.declared.TbBill.{TbBill}
 use Rattle.tunebriar.specs.declared.TbRecord.{TbRecord}
 use Rattle.rules.specs.Transact.{transact_of}
-use Rattle.rules.specs.declared.Metered.{Metered}
-use Rattle.rules.specs.CountEntry.{metered, count_of}
+use Rattle.rules.specs.CountEntry.{Metered, metered, count_of}
 use Rattle.rules.specs.EventEntries.{finish_of, power_cycle_of}
 use Rattle.rules.specs.Reading.{read_of}
 use Rattle.rules.specs.Replay.{replay_first_of, replay_of}

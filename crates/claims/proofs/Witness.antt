@@ -18,7 +18,7 @@ use Rattle.rules.specs.Status.{regs_of, status_of, kept_of}
 use Rattle.rules.specs.WellFormed.{word_formed, awake_formed, well_formed}
 use Rattle.rules.specs.Cells.{erased}
 use Rattle.rules.specs.Counts.{room}
-use Rattle.rules.specs.Refusals.{◌or_else◌}
+use Rattle.rules.specs.Refusals.{passes, ◌or_else◌}
 use Rattle.rules.specs.Replay.{ReplaySeen, replay_of}
 use Rattle.rules.specs.Job.{unit_by, decoded_erase, decoded_lay, decoded_guard, decoded_at, steps_from, steps_of, laid, array_meant, all_regs_meant}
 use Rattle.rules.specs.JobRefusals.{unfit, step_refusal, steps_refusal, job_refusal}
@@ -41,7 +41,7 @@ pub steps_are : steps_of job ≡ EraseAt Sector 0x001000 ∷ Lay (record { addre
 unfolding job steps_from decoded_at decoded_erase decoded_lay decoded_guard unit_by every_in if◌then◌otherwise◌
 steps_are = refl
 
-unrefused : (job_refusal 1 0 job (length payload)).number ≡ 0
+unrefused : job_refusal 1 0 job (length payload) ≡ passes
 unfolding job job_refusal is_part unfit steps_refusal ◌or_else◌ step_refusal first_protected first_in is_protected part_of fm25q16 fm_erases fm_lo fm_hi fm_area fm_sec0 fm_sec1 decoded_at decoded_erase decoded_lay decoded_guard unit_by every_in if◌then◌otherwise◌
 unrefused = refl
 

@@ -9,6 +9,7 @@ use Rattle.rules.specs.Parts.{part_of}
 use Rattle.rules.specs.Status.{regs_of}
 use Rattle.rules.specs.Play.{State, state, play}
 use Rattle.rules.specs.Job.{step_count, steps_of, array_meant}
+use Rattle.rules.specs.Refusals.{passes}
 use Rattle.rules.specs.JobRefusals.{job_refusal}
 use Rattle.rules.specs.Ready.{Ready}
 use Rattle.laws.proofs.JobPassed.{job_passed}
@@ -23,10 +24,10 @@ use Rattle.demand.proofs.NoneIgnored.{none_ignored}
 use Rattle.demand.proofs.Holds.{recs_ok}
 
 -- none of 1 and 20 to 25
-pub accepted_ok : (part s : ℕ) (job : List ℕ) (n : ℕ) → (job_refusal part s job n).number ≡ 0 → JobOk (part_of part) s n (steps_of job)
+pub accepted_ok : (part s : ℕ) (job : List ℕ) (n : ℕ) → job_refusal part s job n ≡ passes → JobOk (part_of part) s n (steps_of job)
 accepted_ok part s job n e = job_ok (part_of part) s n job 0 (step_count job) (job_passed part s job n e).unrefused
 
-module _ (part s : ℕ) (job payload : List ℕ) (ok : (job_refusal part s job (length payload)).number ≡ 0) where
+module _ (part s : ℕ) (job payload : List ℕ) (ok : job_refusal part s job (length payload) ≡ passes) where
   -- "awake", "idle", "unlocked", at the setting that the job was translated for
   module _ (kept : Kept) (ready : Ready (part_of part) s kept) (l : List ℕ) (long : length l ≡ (part_of part).size) (m : Meter) where
     fit : Fit (part_of part) (state (regs_of kept) l m)

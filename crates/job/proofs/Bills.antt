@@ -1,4 +1,5 @@
 -- A loop that adds up the bills of a job's steps, and what they come to at most.
+use Rattle.std.specs.Prelude.{Option, Some, None}
 use mathlib.Core.Path.{◌≡◌, refl, sym, ap, ◌∙◌}
 use mathlib.Core.List.{List}
 use Prim.Native.Nat.{ℕ, suc, ◌+◌, ◌-◌, ◌≤◌, ◌<◌}
@@ -7,8 +8,6 @@ use native.Mathlib.Numerals.{add-one}
 use native.Mathlib.Omega.{arith}
 use Rattle.rules.specs.declared.Step.{Step}
 use Rattle.rules.specs.declared.Step.TheVariants.{EraseAt, Lay, Guard}
-use Rattle.rules.specs.declared.Decoded.{Decoded}
-use Rattle.rules.specs.declared.Decoded.TheVariants.{Good, Bad}
 use Rattle.rules.specs.declared.Bill.{Bill}
 use Rattle.rules.specs.Job.{step_at, with_step, steps_from}
 use Rattle.rules.specs.Bill.{step_bill, no_bill, ◌plus◌, bill_of}
@@ -51,10 +50,10 @@ plus_none b =
     λ i.
     record { programs = add-zero b.programs i; erases = add-zero b.erases i; register_writes = add-zero b.register_writes i; length = add-zero b.length i }
 
-with_bill : (d : Decoded) (ss : List Step) → bill_of (with_step d ss) ≡ decoded_bill d plus bill_of ss
+with_bill : (d : Option Step) (ss : List Step) → bill_of (with_step d ss) ≡ decoded_bill d plus bill_of ss
 unfolding bill_of
-with_bill (Good w) ss = refl
-with_bill Bad ss = sym (none_plus (bill_of ss))
+with_bill (Some w) ss = refl
+with_bill None ss = sym (none_plus (bill_of ss))
 
 module _ (job : List ℕ) where
   pub bill-start : (n : ℕ) → no_bill plus bill_of (steps_from job 0 (n - 0)) ≡ bill_of (steps_from job 0 n)

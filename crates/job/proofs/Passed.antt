@@ -1,4 +1,5 @@
 -- An accepted job's steps, each at the setting carried to it; and that its bill can be summed.
+use Rattle.std.specs.Prelude.{Option, Some}
 use mathlib.Core.Path.{◌≡◌, subst}
 use mathlib.Core.Bool.{Bool, false, not, ◌||◌}
 use mathlib.Core.List.{List}
@@ -11,11 +12,10 @@ use borrow.Author.Tests.{eqb-true, ltb-false, not-false}
 use Rattle.lists.specs.Choice.{◌=?◌, ◌<?◌}
 use Rattle.lists.proofs.Choice.{either_false}
 use Rattle.rules.specs.declared.Step.{Step}
-use Rattle.rules.specs.declared.Decoded.{Decoded}
-use Rattle.rules.specs.declared.Decoded.TheVariants.{Good}
 use Rattle.rules.specs.Part.{Part}
 use Rattle.rules.specs.Parts.{part_of}
 use Rattle.rules.specs.Job.{step_length, step_at, step_count}
+use Rattle.rules.specs.Refusals.{passes}
 use Rattle.rules.specs.JobRefusals.{job_limit, payload_limit, unfit, steps_refusal, job_refusal}
 use Rattle.laws.proofs.Inside.{lay_inside}
 use Rattle.laws.proofs.JobPassed.{StepOk, StepPassed, steps_next, job_passed}
@@ -40,9 +40,12 @@ fit job pl e =
     let b = either_false w m a.0 in
     record { whole = eqb-true _ _ (not-false _ b.0); few = ltb-false _ _ b.1; small = ltb-false _ _ a.1 }
 
+pub few_steps : (job : List ℕ) (pl : ℕ) → unfit job pl ≡ false → step_count job ≤ job_limit
+few_steps job pl e = (fit job pl e).few
+
 -- ---- 22 to 25
 
-each : (p : Part) (pl : ℕ) (job : List ℕ) (s i n : ℕ) → (steps_refusal p (setting_at job s i) pl job i n).number ≡ 0
+each : (p : Part) (pl : ℕ) (job : List ℕ) (s i n : ℕ) → steps_refusal p (setting_at job s i) pl job i n ≡ passes
     → (k : ℕ) → i ≤ k → k < i + n → StepPassed p (setting_at job s k) pl (step_at job k)
 unfolding setting_at
 each p pl job s i zero e k h l = absurd (omega arith)
@@ -54,7 +57,7 @@ each p pl job s i (suc n) e k h l =
     (eq-or-lt_of_le h)
 
 -- each of a job's steps, at the setting carried to it
-pub each_passed : (part s : ℕ) (job : List ℕ) (pl : ℕ) → (job_refusal part s job pl).number ≡ 0
+pub each_passed : (part s : ℕ) (job : List ℕ) (pl : ℕ) → job_refusal part s job pl ≡ passes
     → (i : ℕ) → i < step_count job → StepPassed (part_of part) (setting_at job s i) pl (step_at job i)
 unfolding setting_at
 each_passed part s job pl e i h = each (part_of part) pl job s 0 (step_count job) (job_passed part s job pl e).unrefused i (omega arith) (omega arith)
@@ -70,10 +73,10 @@ ok_billable p sound s pl w k =
     }
 
 -- bytes that say a step that passed say no other
-pub passed_ok : (p : Part) (s pl : ℕ) (d : Decoded) (w : Step) → StepPassed p s pl d → d ≡ Good w → StepOk p s pl w
+pub passed_ok : (p : Part) (s pl : ℕ) (d : Option Step) (w : Step) → StepPassed p s pl d → d ≡ Some w → StepOk p s pl w
 passed_ok p s pl d w h e = let v : h.step ≡ w = cc h.good in rw v at h.ok
 
-pub accepted-counted : (part s : ℕ) (job : List ℕ) (pl : ℕ) → (job_refusal part s job pl).number ≡ 0 → Counted job
+pub accepted-counted : (part s : ℕ) (job : List ℕ) (pl : ℕ) → job_refusal part s job pl ≡ passes → Counted job
 accepted-counted part s job pl e =
     record {
       few = (fit job pl (job_passed part s job pl e).fits).few;

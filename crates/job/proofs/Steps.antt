@@ -1,17 +1,16 @@
 -- A loop over a job's steps: what is left of them, at the setting reached, is refused as all of them are.
+use Rattle.std.specs.Prelude.{Option}
+use Rattle.rules.specs.declared.Step.{Step}
 use mathlib.Core.Path.{◌≡◌, ap, ◌∙◌}
 use mathlib.Core.List.{List}
 use Prim.Native.Nat.{ℕ, suc, ◌+◌, ◌-◌, ◌≤◌, ◌<◌}
 use native.Mathlib.Nat.{sub-zero}
 use native.Mathlib.Numerals.{add-one}
 use native.Mathlib.Omega.{arith}
-use borrow.Author.Tests.{ne_eqb}
-use Rattle.lists.specs.Choice.{if◌then◌otherwise◌}
-use Rattle.rules.specs.declared.Decoded.{Decoded}
 use Rattle.rules.specs.declared.Refusal.{Refusal}
 use Rattle.rules.specs.Part.{Part}
 use Rattle.rules.specs.Job.{step_at}
-use Rattle.rules.specs.Refusals.{refusal, ◌or_else◌}
+use Rattle.rules.specs.Refusals.{passes, refused, ◌or_else◌}
 use Rattle.rules.specs.JobRefusals.{decoded_refusal, setting_after, steps_refusal}
 
 module _ (p : Part) (pl : ℕ) (job : List ℕ) where
@@ -25,17 +24,18 @@ module _ (p : Part) (pl : ℕ) (job : List ℕ) where
       let e : n - i ≡ suc (n - (i + 1)) = omega arith in
       ap (steps_refusal p s pl job i) e ∙ rw (add-one i)
 
-  -- step i says d, its refusal is z and the setting after it t
-  pub steps_go : (s i n t : ℕ) (z : Refusal) (d : Decoded) → i < n → d ≡ step_at job i → z ≡ decoded_refusal p s pl i d → z.number ≡ 0 → t ≡ setting_after s d
+  -- step i says d, it passes, and the setting after it is t
+  pub steps_go : (s i n t : ℕ) (d : Option Step) → i < n → d ≡ step_at job i → decoded_refusal p s pl i d ≡ passes → t ≡ setting_after s d
       → steps_refusal p s pl job i (n - i) ≡ steps_refusal p t pl job (i + 1) (n - (i + 1))
-  unfolding ◌or_else◌ if◌then◌otherwise◌
-  steps_go s i n t z d h e f k g = next s i n h ∙ rw (← e, ← f, ← g, k)
+  unfolding ◌or_else◌
+  steps_go s i n t d h e f g = next s i n h ∙ rw (← e, ← g, f)
 
-  pub steps_stop : (s i n : ℕ) (z : Refusal) (d : Decoded) → i < n → d ≡ step_at job i → z ≡ decoded_refusal p s pl i d → (z.number ≡ 0 → ⊥)
-      → steps_refusal p s pl job i (n - i) ≡ z
-  unfolding ◌or_else◌ if◌then◌otherwise◌
-  steps_stop s i n z d h e f k = next s i n h ∙ rw (← e, ← f, ne_eqb z.number 0 k)
+  -- .. or it is refused with z
+  pub steps_stop : (s i n : ℕ) (z : Refusal) (d : Option Step) → i < n → d ≡ step_at job i → decoded_refusal p s pl i d ≡ refused z
+      → steps_refusal p s pl job i (n - i) ≡ refused z
+  unfolding ◌or_else◌
+  steps_stop s i n z d h e f = next s i n h ∙ rw (← e, f)
 
-  pub steps_end : (s i n : ℕ) → n ≤ i → steps_refusal p s pl job i (n - i) ≡ refusal 0
+  pub steps_end : (s i n : ℕ) → n ≤ i → steps_refusal p s pl job i (n - i) ≡ passes
   unfolding steps_refusal
   steps_end s i n h = let e : n - i ≡ 0 = omega arith in ap (steps_refusal p s pl job i) e

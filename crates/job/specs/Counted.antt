@@ -1,10 +1,8 @@
 -- What a bill asks of a job, so that no sum in it wraps. A job that is accepted has it.
-use Rattle.std.specs.Prelude.{ℕ, ◌+◌, ◌*◌, ◌≤◌, ◌<◌, ◌≡◌, List}
+use Rattle.std.specs.Prelude.{ℕ, ◌+◌, ◌*◌, ◌≤◌, ◌<◌, ◌≡◌, List, Option, Some, None}
 use Rattle.rules.specs.declared.Span.{Span}
 use Rattle.rules.specs.declared.Step.{Step}
 use Rattle.rules.specs.declared.Step.TheVariants.{Lay}
-use Rattle.rules.specs.declared.Decoded.{Decoded}
-use Rattle.rules.specs.declared.Decoded.TheVariants.{Good, Bad}
 use Rattle.rules.specs.declared.Bill.{Bill}
 use Rattle.rules.specs.Units.{address_end}
 use Rattle.rules.specs.Job.{step_at, step_count}
@@ -26,7 +24,7 @@ pub record Billable (w : Step) : Type 0 where
 
 pub record Counted (job : List ℕ) : Type 0 where
   pub few : step_count job ≤ job_limit
-  pub each : (i : ℕ) → i < step_count job → (w : Step) → step_at job i ≡ Good w → Billable w
+  pub each : (i : ℕ) → i < step_count job → (w : Step) → step_at job i ≡ Some w → Billable w
 
 -- at most what n such steps cost
 pub record Upto (b : Bill) (n : ℕ) : Type 0 where
@@ -36,6 +34,6 @@ pub record Upto (b : Bill) (n : ℕ) : Type 0 where
   pub length_few : b.length ≤ tape_length page_limit * n
 
 -- bytes that say no step cost nothing
-abbrev pub decoded_bill : Decoded → Bill
-decoded_bill (Good w) = step_bill w
-decoded_bill Bad = no_bill
+abbrev pub decoded_bill : Option Step → Bill
+decoded_bill (Some w) = step_bill w
+decoded_bill None = no_bill

@@ -6,7 +6,7 @@ ghost use Rattle.rules.specs.Bill.{pages_touched, step_bill, no_bill, ◌plus◌
 ghost use Rattle.job.specs.Counted.{page_limit, Short, Billable, Counted, Upto, decoded_bill};
 
 use crate::decode;
-use rules::{Bill, COMMAND_LENGTH, Decoded, PAGE, STEP_LENGTH, Span, Step};
+use rules::{Bill, COMMAND_LENGTH, PAGE, STEP_LENGTH, Span, Step};
 
 pub fn pages_touched(span: Span) -> usize
     requires { Short span }
@@ -67,8 +67,8 @@ fn bill_at(job: &[u8], i: usize) -> Bill
 {
     let d = decode::step_at(job, i);
     match d {
-        Decoded::Good(w) => step_bill(w),
-        Decoded::Bad => no_bill(),
+        Some(w) => step_bill(w),
+        None => no_bill(),
     }
 }
 

@@ -3,7 +3,7 @@ ghost use Rattle.std.specs.Prelude.{◌≡◌, ◌+◌, ◌≤◌, ◌<◌};
 ghost use Rattle.lists.specs.Width.{number_end, place_end};
 ghost use Rattle.rules.specs.Job.{number4, zeros, unit_by, decoded_erase, decoded_lay, decoded_guard, step_at};
 
-use rules::{Decoded, EraseUnit, GUARD_LIMIT, STEP_LENGTH, Span, Step};
+use rules::{EraseUnit, GUARD_LIMIT, STEP_LENGTH, Span, Step};
 
 // Four bytes, big-endian.
 fn read4(job: &[u8], a: usize) -> usize
@@ -43,61 +43,61 @@ fn unit_by(n: u8) -> EraseUnit
     }
 }
 
-fn erase_at(job: &[u8], a: usize) -> Decoded
+fn erase_at(job: &[u8], a: usize) -> Option<Step>
     requires { a + 16 ≤ place_end }
     ensures { result ≡ decoded_erase job.now a }
 {
     let unit = lists::byte_at(job, a + 1);
     if 3 < unit {
-        return Decoded::Bad;
+        return None;
     }
     if !are_zeros(job, a + 8, 8) {
-        return Decoded::Bad;
+        return None;
     }
-    Decoded::Good(Step::EraseAt(unit_by(unit), read4(job, a + 4)))
+    Some(Step::EraseAt(unit_by(unit), read4(job, a + 4)))
 }
 
-fn lay_at(job: &[u8], a: usize) -> Decoded
+fn lay_at(job: &[u8], a: usize) -> Option<Step>
     requires { a + 16 ≤ place_end }
     ensures { result ≡ decoded_lay job.now a }
 {
     if lists::byte_at(job, a + 1) != 0 {
-        return Decoded::Bad;
+        return None;
     }
-    Decoded::Good(Step::Lay(Span {
+    Some(Step::Lay(Span {
         address: read4(job, a + 4),
         length: read4(job, a + 8),
         offset: read4(job, a + 12),
     }))
 }
 
-fn guard_at(job: &[u8], a: usize) -> Decoded
+fn guard_at(job: &[u8], a: usize) -> Option<Step>
     requires { a + 16 ≤ place_end }
     ensures { result ≡ decoded_guard job.now a }
 {
     let setting = lists::byte_at(job, a + 1);
     if GUARD_LIMIT < setting {
-        return Decoded::Bad;
+        return None;
     }
     if !are_zeros(job, a + 4, 12) {
-        return Decoded::Bad;
+        return None;
     }
-    Decoded::Good(Step::Guard(setting))
+    Some(Step::Guard(setting))
 }
 
 // Step i of a job; no job that is looked at has so many steps that 16 * i would wrap.
-pub fn step_at(job: &[u8], index: usize) -> Decoded
+pub fn step_at(job: &[u8], index: usize) -> Option<Step>
     requires { index < number_end }
     ensures { result ≡ step_at job.now index }
 {
     let a = STEP_LENGTH * index;
     if !are_zeros(job, a + 2, 2) {
-        return Decoded::Bad;
+        return None;
     }
     match lists::byte_at(job, a) {
         1 => erase_at(job, a),
         2 => lay_at(job, a),
         3 => guard_at(job, a),
-        _ => Decoded::Bad,
+        _ => None,
     }
 }

@@ -1,7 +1,7 @@
 // A job: what its bytes say, when it is refused, and what its tape costs.
 #![tactic(auto)]
 
-use rules::Quoted;
+use rules::{Bill, Refusal};
 
 pub mod bill;
 pub mod decode;
@@ -11,13 +11,9 @@ ghost use Rattle.std.specs.Prelude.{◌≡◌};
 ghost use Rattle.rules.specs.Translate.{quote_told, quote_of};
 
 // The bill beforehand, for any input.
-pub fn quote(part: u32, setting: u32, job: &[u8], payload_length: usize) -> Quoted
+pub fn quote(part: u32, setting: u32, job: &[u8], payload_length: usize) -> Result<Bill, Refusal>
     ensures { quote_told result ≡ quote_of part setting job.now payload_length }
 {
-    let z = refuse::job_refusal(part, setting, job, payload_length);
-    let number = z.number;
-    if number != 0 {
-        return Quoted::Refused(z);
-    }
-    Quoted::Billed(bill::bill_of(job))
+    refuse::job_refusal(part, setting, job, payload_length)?;
+    Ok(bill::bill_of(job))
 }

@@ -5,10 +5,7 @@ ghost use Rattle.rules.specs.Job.{step_count, setting_meant};
 ghost use Rattle.rules.specs.JobRefusals.{job_limit, unfit, chip_not_at_zero, outside, beyond, step_start, step_reach, first_shielded, shielded, step_refusal, decoded_refusal, setting_after, steps_refusal, job_refusal};
 
 use crate::decode;
-use lists::Found;
-use rules::{
-    Decoded, EraseUnit, JOB_LIMIT, LAY_LIMIT, PAYLOAD_LIMIT, Refusal, STEP_LENGTH, Span, Step,
-};
+use rules::{EraseUnit, JOB_LIMIT, LAY_LIMIT, PAYLOAD_LIMIT, Refusal, STEP_LENGTH, Span, Step};
 
 // ---- 23: where a step lies, and what the chip lacks
 
@@ -106,33 +103,34 @@ fn step_reach(part: u32, w: Step) -> usize
 }
 
 // The first protected byte that a step touches, at setting s.
-fn first_shielded(part: u32, s: u8, w: Step) -> Found
+fn first_shielded(part: u32, s: u8, w: Step) -> Option<usize>
     requires { outside (part_of part) w ≡ false }
     ensures { result ≡ first_shielded (part_of part) s w }
 {
     judge::first_protected(part, s, step_start(w), step_reach(part, w))
 }
 
-fn shielded(i: usize, found: Found) -> Refusal
+fn shielded(i: usize, found: Option<usize>) -> Result<(), Refusal>
     ensures { result ≡ shielded i found }
 {
     match found {
-        Found::At(_) => refusals::refusal_at(25, i),
-        Found::Nothing => refusals::refusal(0),
+        Some(_) => Err(Refusal::StepProtected(i)),
+        None => Ok(()),
     }
 }
 
 // ---- one step
 
 // 23 to 25 for step i, at setting s.
-fn step_refusal(part: u32, s: u8, payload_length: usize, i: usize, w: Step) -> Refusal
+#[tactic(auto, using(lists::proofs::Choice::choices, std::proofs::lemmas::Bool::Decides::nat_tests), unfolding(rules::specs::JobRefusals::step_refusal))]
+fn step_refusal(part: u32, s: u8, payload_length: usize, i: usize, w: Step) -> Result<(), Refusal>
     ensures { result ≡ step_refusal (part_of part) s payload_length i w }
 {
     if is_outside(part, w) {
-        return refusals::refusal_at(23, i);
+        return Err(Refusal::StepOutside(i));
     }
     if is_beyond(payload_length, w) {
-        return refusals::refusal_at(24, i);
+        return Err(Refusal::StepBeyond(i));
     }
     shielded(i, first_shielded(part, s, w))
 }
@@ -143,13 +141,13 @@ pub fn decoded_refusal(
     setting: u8,
     payload_length: usize,
     index: usize,
-    decoded: Decoded,
-) -> Refusal
+    decoded: Option<Step>,
+) -> Result<(), Refusal>
     ensures { result ≡ decoded_refusal (part_of part) setting payload_length index decoded }
 {
     match decoded {
-        Decoded::Good(w) => step_refusal(part, setting, payload_length, index, w),
-        Decoded::Bad => refusals::refusal_at(22, index),
+        Some(w) => step_refusal(part, setting, payload_length, index, w),
+        None => Err(Refusal::StepUnsaid(index)),
     }
 }
 
@@ -164,12 +162,12 @@ fn setting_meant(s: u8, w: Step) -> u8
 }
 
 // The setting that the next step's 25 goes by.
-pub fn setting_after(setting: u8, decoded: Decoded) -> u8
+pub fn setting_after(setting: u8, decoded: Option<Step>) -> u8
     ensures { result ≡ setting_after setting decoded }
 {
     match decoded {
-        Decoded::Good(w) => setting_meant(setting, w),
-        Decoded::Bad => setting,
+        Some(w) => setting_meant(setting, w),
+        None => setting,
     }
 }
 
@@ -189,7 +187,7 @@ fn is_unfit(job: &[u8], payload_length: usize) -> bool
 }
 
 // The first step that is refused, each at the setting that the guards before it left.
-fn steps_refusal(part: u32, s: u8, job: &[u8], payload_length: usize) -> Refusal
+fn steps_refusal(part: u32, s: u8, job: &[u8], payload_length: usize) -> Result<(), Refusal>
     requires { step_count job.now ≤ job_limit }
     ensures { result ≡ steps_refusal (part_of part) s payload_length job.now 0 (step_count job.now) }
 {
@@ -198,29 +196,31 @@ fn steps_refusal(part: u32, s: u8, job: &[u8], payload_length: usize) -> Refusal
     let mut i = 0;
     while i < n {
         let d = decode::step_at(job, i);
-        let z = decoded_refusal(part, setting, payload_length, i, d);
-        let number = z.number;
-        if number != 0 {
-            return z;
-        }
+        decoded_refusal(part, setting, payload_length, i, d)?;
         setting = setting_after(setting, d);
         i += 1;
     }
-    refusals::refusal(0)
+    Ok(())
 }
 
 // Any input: the setting is judged at its full width, and no step is looked at before 20.
-pub fn job_refusal(part: u32, setting: u32, job: &[u8], payload_length: usize) -> Refusal
+#[tactic(auto, using(lists::proofs::Choice::choices, std::proofs::lemmas::Bool::Decides::nat_tests, crate::proofs::Passed::few_steps), unfolding(rules::specs::JobRefusals::job_refusal))]
+pub fn job_refusal(
+    part: u32,
+    setting: u32,
+    job: &[u8],
+    payload_length: usize,
+) -> Result<(), Refusal>
     ensures { result ≡ job_refusal part setting job.now payload_length }
 {
     if !parts::is_part(part) {
-        return refusals::refusal(1);
+        return Err(Refusal::UnknownPart);
     }
     if is_unfit(job, payload_length) {
-        return refusals::refusal(20);
+        return Err(Refusal::UnfitJob);
     }
     if (parts::setting_limit(part) as u32) < setting {
-        return refusals::refusal(21);
+        return Err(Refusal::StartSetting);
     }
     steps_refusal(part, setting as u8, job, payload_length)
 }

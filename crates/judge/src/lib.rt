@@ -6,14 +6,11 @@ ghost use Rattle.rules.specs.Parts.{part_of};
 ghost use Rattle.rules.specs.Units.{unit_start, unit_length};
 ghost use Rattle.rules.specs.Protection.{first_protected};
 ghost use Rattle.rules.specs.Writes.{reach_start, reach_length, locked, locked_out};
-ghost use Rattle.rules.specs.Verdict.{ignored, address_of, unheard_asleep, unheard_busy, verdict_of};
+ghost use Rattle.rules.specs.Verdict.{address_of, unheard_asleep, unheard_busy, verdict_of};
 ghost use Rattle.laws.specs.Judged.{protection_verdict, write_verdict, kind_verdict, judge_of};
 ghost use Rattle.lists.specs.Width.{number_end};
 
-use lists::Found;
-use rules::{
-    BLOCK_32, BLOCK_64, Command, EraseUnit, Kind, PAGE, Reason, Regs, SECTOR, Verdict, Write,
-};
+use rules::{BLOCK_32, BLOCK_64, EraseUnit, Kind, PAGE, Reason, Regs, SECTOR, Verdict, Write};
 
 // ---- where a write reaches
 
@@ -60,7 +57,7 @@ fn reach_length(part: u32, w: Write) -> usize
 }
 
 // The first protected byte among the n from a on, from the two ends of the area.
-pub fn first_protected(part: u32, setting: u8, start: usize, count: usize) -> Found
+pub fn first_protected(part: u32, setting: u8, start: usize, count: usize) -> Option<usize>
     requires { start + count < number_end }
     ensures { result ≡ first_protected (part_of part) setting start count }
 {
@@ -75,19 +72,12 @@ pub fn first_protected(part: u32, setting: u8, start: usize, count: usize) -> Fo
         end = hi;
     }
     if from < end {
-        return Found::At(from);
+        return Some(from);
     }
-    Found::Nothing
+    None
 }
 
 // ---- the tests, each by itself
-
-// The only maker of an ignored verdict.
-fn ignore(number: u8) -> Verdict
-    ensures { result ≡ ignored number }
-{
-    Verdict::Ignored(Reason { number: number })
-}
 
 fn is_unheard_asleep(part: u32, r: Regs, op: u8) -> bool
     ensures { result ≡ unheard_asleep (part_of part) r op }
@@ -135,12 +125,12 @@ fn is_locked_out(w: Write, r: Regs, high: bool) -> bool
 // ---- the tests, one after the other
 
 // 16, or carried out.
-fn by_protection(k: Kind, found: Found) -> Verdict
+fn by_protection(k: Kind, found: Option<usize>) -> Verdict
     ensures { result ≡ protection_verdict k found }
 {
     match found {
-        Found::At(_) => ignore(16),
-        Found::Nothing => Verdict::CarriedOut(k),
+        Some(_) => Verdict::Ignored(Reason::Protected),
+        None => Verdict::CarriedOut(k),
     }
 }
 
@@ -150,10 +140,10 @@ fn judge_write(part: u32, r: Regs, high: bool, a: usize, k: Kind, w: Write) -> V
     ensures { result ≡ write_verdict (part_of part) r high a k w }
 {
     if !r.wel {
-        return ignore(14);
+        return Verdict::Ignored(Reason::NotEnabled);
     }
     if is_locked_out(w, r, high) {
-        return ignore(15);
+        return Verdict::Ignored(Reason::Locked);
     }
     let s = r.setting;
     let found = first_protected(part, s, reach_start(w, a), reach_length(part, w));
@@ -166,7 +156,7 @@ fn judge_kind(part: u32, r: Regs, fit: bool, high: bool, a: usize, k: Kind) -> V
     ensures { result ≡ kind_verdict (part_of part) r fit high a k }
 {
     if !fit {
-        return ignore(13);
+        return Verdict::Ignored(Reason::Misshapen);
     }
     let Kind::Writes(w) = k else {
         return Verdict::CarriedOut(k);
@@ -184,22 +174,22 @@ fn judge(
     high: bool,
     op: u8,
     a: usize,
-    c: Command,
+    c: Option<Kind>,
 ) -> Verdict
     requires { a < (part_of part).size }
     ensures { result ≡ judge_of (part_of part) r n fit high op a c }
 {
     if n == 0 {
-        return ignore(12);
+        return Verdict::Ignored(Reason::NoCommand);
     }
     if is_unheard_asleep(part, r, op) {
-        return ignore(11);
+        return Verdict::Ignored(Reason::Asleep);
     }
     if is_unheard_busy(part, r, op) {
-        return ignore(10);
+        return Verdict::Ignored(Reason::Busy);
     }
-    let Command::Known(k) = c else {
-        return ignore(12);
+    let Some(k) = c else {
+        return Verdict::Ignored(Reason::NoCommand);
     };
     judge_kind(part, r, fit, high, a, k)
 }

@@ -1,4 +1,5 @@
 -- What it takes for a transaction to be carried out: every test of document 01's list of verdicts was passed.
+use Rattle.std.specs.Prelude.{Option, Some, None}
 use mathlib.Core.Path.{◌≡◌, refl, sym, ap, ◌∙◌, subst}
 use mathlib.Core.Bool.{Bool, true, false, not}
 use mathlib.Core.List.{List}
@@ -8,21 +9,19 @@ use lib.ListN.{length, get_or}
 use borrow.Author.Tests.{eqb-false, ne_eqb, not-false}
 use Rattle.lists.specs.Choice.{if◌then◌otherwise◌, ◌=?◌}
 use Rattle.lists.proofs.Choice.{took_other}
-use Rattle.lists.specs.declared.Found.{Found}
-use Rattle.lists.specs.declared.Found.TheVariants.{At, Nothing}
 use Rattle.rules.specs.declared.Regs.{Regs}
 use Rattle.rules.specs.declared.Write.{Write}
 use Rattle.rules.specs.declared.Kind.{Kind}
 use Rattle.rules.specs.declared.Kind.TheVariants.{WriteEnable, WriteDisable, ReadStatusLow, ReadStatusHigh, Read, FastRead, Sleep, Wake, ReadMakerDevice, ReadJedec, Writes}
-use Rattle.rules.specs.declared.Command.{Command}
-use Rattle.rules.specs.declared.Command.TheVariants.{Known, Unknown}
 use Rattle.rules.specs.declared.Verdict.{Verdict}
-use Rattle.rules.specs.declared.Verdict.TheVariants.{CarriedOut}
+use Rattle.rules.specs.declared.Reason.{Reason}
+use Rattle.rules.specs.declared.Reason.TheVariants.{Busy, Asleep, NoCommand, Misshapen, NotEnabled, Locked}
+use Rattle.rules.specs.declared.Verdict.TheVariants.{CarriedOut, Ignored}
 use Rattle.rules.specs.Kinds.{of_write, of_known}
 use Rattle.rules.specs.Part.{Part, command_of, shaped}
 use Rattle.rules.specs.Protection.{first_protected}
 use Rattle.rules.specs.Writes.{reach_start, reach_length, locked_out}
-use Rattle.rules.specs.Verdict.{ignored, address_of, unheard_asleep, unheard_busy, verdict_of}
+use Rattle.rules.specs.Verdict.{address_of, unheard_asleep, unheard_busy, verdict_of}
 use Rattle.laws.specs.Judged.{protection_verdict, write_verdict, kind_verdict, judge_of}
 use Rattle.laws.proofs.Judged.{verdict_judged}
 use Rattle.rules.specs.Transaction.{turn_by, turn_of}
@@ -58,38 +57,38 @@ not_both k h w e =
 pub record WritePassed (p : Part) (r : Regs) (high : Bool) (a : ℕ) (w : Write) : Type 0 where
   pub enabled : r.wel ≡ true
   pub unlocked : locked_out w r high ≡ false
-  pub bare : first_protected p r.setting (reach_start w a) (reach_length p w) ≡ Nothing
+  pub bare : first_protected p r.setting (reach_start w a) (reach_length p w) ≡ None
 
 -- what is asked of any command: none of 10 to 16
 pub record Passed (p : Part) (r : Regs) (b : List ℕ) (x : ℕ) (high : Bool) (k : Kind) : Type 0 where
   pub not_empty : 0 < length b
   pub awake : unheard_asleep p r (get_or b 0 0) ≡ false
   pub idle : unheard_busy p r (get_or b 0 0) ≡ false
-  pub known : command_of p (get_or b 0 0) ≡ Known k
+  pub known : command_of p (get_or b 0 0) ≡ Some k
   pub formed : shaped p (get_or b 0 0) (length b) x ≡ true
   pub may_write : (w : Write) → k ≡ Writes w → WritePassed p r high (address_of p b) w
 
 -- ---- from the verdict to the tests
 
 -- a choice that is carried out took its other side
-other : (t : Bool) (n : ℕ) (v : Verdict) (k : Kind) → (if t then ignored n otherwise v) ≡ CarriedOut k → (t ≡ false) × (v ≡ CarriedOut k)
-other t n v k = took_other (λ (w : Verdict). w ≡ CarriedOut k) t (ignored n) v (λ q. let z : ◌≡◌ {A = ℕ} 0 1 = cc in omega arith)
+other : (t : Bool) (w : Reason) (v : Verdict) (k : Kind) → (if t then Ignored w otherwise v) ≡ CarriedOut k → (t ≡ false) × (v ≡ CarriedOut k)
+other t w v k = took_other (λ (u : Verdict). u ≡ CarriedOut k) t (Ignored w) v (λ q. let z : ◌≡◌ {A = ℕ} 0 1 = cc in omega arith)
 
-unprotected : (j k : Kind) (f : Found) → protection_verdict j f ≡ CarriedOut k → (j ≡ k) × (f ≡ Nothing)
-unprotected j k (At y) e = let z : ◌≡◌ {A = ℕ} 0 1 = cc in absurd (omega arith)
-unprotected j k Nothing e = (cc, refl)
+unprotected : (j k : Kind) (f : Option ℕ) → protection_verdict j f ≡ CarriedOut k → (j ≡ k) × (f ≡ None)
+unprotected j k (Some y) e = let z : ◌≡◌ {A = ℕ} 0 1 = cc in absurd (omega arith)
+unprotected j k None e = (cc, refl)
 
-is_known : (c : Command) (f : Kind → Verdict) (k : Kind) → of_known c (ignored 12) f ≡ CarriedOut k → (j : Kind) × (c ≡ Known j) × (f j ≡ CarriedOut k)
+is_known : (c : Option Kind) (f : Kind → Verdict) (k : Kind) → of_known c (Ignored NoCommand) f ≡ CarriedOut k → (j : Kind) × (c ≡ Some j) × (f j ≡ CarriedOut k)
 unfolding of_known
-is_known Unknown f k e = let z : ◌≡◌ {A = ℕ} 0 1 = cc in absurd (omega arith)
-is_known (Known j) f k e = (j, refl, e)
+is_known None f k e = let z : ◌≡◌ {A = ℕ} 0 1 = cc in absurd (omega arith)
+is_known (Some j) f k e = (j, refl, e)
 
 module _ (p : Part) (r : Regs) (high : Bool) (a : ℕ) where
   write_passed : (w : Write) (j k : Kind) → write_verdict p r high a j w ≡ CarriedOut k → (j ≡ k) × WritePassed p r high a w
   unfolding write_verdict
   write_passed w j k e =
-      let e1 = other (not r.wel) 14 _ k e in
-      let e2 = other (locked_out w r high) 15 _ k e1.1 in
+      let e1 = other (not r.wel) NotEnabled _ k e in
+      let e2 = other (locked_out w r high) Locked _ k e1.1 in
       let e3 = unprotected j k _ e2.1 in
       (e3.0, record { enabled = not-false _ e1.0; unlocked = e2.0; bare = e3.1 })
 
@@ -107,18 +106,18 @@ pub carried_passed : (p : Part) (r : Regs) (b : List ℕ) (x : ℕ) (high : Bool
 unfolding judge_of kind_verdict
 carried_passed p r b x high k e =
     let op = get_or b 0 0 in
-    let e1 = other (length b =? 0) 12 _ k (sym (verdict_judged p r b x high) ∙ e) in
-    let e2 = other (unheard_asleep p r op) 11 _ k e1.1 in
-    let e3 = other (unheard_busy p r op) 10 _ k e2.1 in
+    let e1 = other (length b =? 0) NoCommand _ k (sym (verdict_judged p r b x high) ∙ e) in
+    let e2 = other (unheard_asleep p r op) Asleep _ k e1.1 in
+    let e3 = other (unheard_busy p r op) Busy _ k e2.1 in
     let e4 = is_known (command_of p op) _ k e3.1 in
-    let e5 = other (not (shaped p op (length b) x)) 13 _ k e4.2 in
+    let e5 = other (not (shaped p op (length b) x)) Misshapen _ k e4.2 in
     let e6 = kind_passed p r high (address_of p b) k e4.0 e5.1 in
     let n = eqb-false (length b) 0 e1.0 in
     record {
       not_empty = omega arith;
       awake = e2.0;
       idle = e3.0;
-      known = e4.1 ∙ ap Known e6.0;
+      known = e4.1 ∙ ap Some e6.0;
       formed = not-false _ e5.0;
       may_write = λ w q. e6.1 w (e6.0 ∙ q);
     }

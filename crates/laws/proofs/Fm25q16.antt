@@ -1,4 +1,5 @@
 -- The FM25Q16 keeps the laws of a chip.
+use Rattle.std.specs.Prelude.{Some}
 use mathlib.Core.Path.{◌≡◌, refl}
 use mathlib.Core.Bool.{Bool, true, ◌&&◌}
 use mathlib.Core.List.{List, [], ◌∷◌}
@@ -16,7 +17,6 @@ use Rattle.rules.specs.declared.Write.{Write}
 use Rattle.rules.specs.declared.Write.TheVariants.{Erase}
 use Rattle.rules.specs.declared.Kind.{Kind}
 use Rattle.rules.specs.declared.Kind.TheVariants.{ReadStatusLow, ReadStatusHigh, Wake, Writes}
-use Rattle.rules.specs.declared.Command.TheVariants.{Known}
 use Rattle.rules.specs.declared.Regs.{Regs}
 use Rattle.rules.specs.Kinds.{code_of}
 use Rattle.rules.specs.Units.{page}
@@ -135,15 +135,15 @@ heard_busy_lem op =
     (λ e. ⊎_map (eqb-true op 0x05) (eqb-true op 0x35) (h.0 e), λ e. h.1 (⊎_map (eq-eqb op 0x05) (eq-eqb op 0x35) e))
 
 -- a code of the kind j says no other kind
-says : (op : ℕ) (j k : Kind) → op ≡ code_of j → command_of fm25q16 op ≡ Known k → j ≡ k
+says : (op : ℕ) (j k : Kind) → op ≡ code_of j → command_of fm25q16 op ≡ Some k → j ≡ k
 unfolding fm25q16 row_of
 says op j k e q = let c = code_back j in cc
 
-busy_quiet : (op : ℕ) (k : Kind) → fm_heard_busy op ≡ true → command_of fm25q16 op ≡ Known k → (r : Regs) (b : List ℕ) → regs_done fm25q16 r b k ≡ r
+busy_quiet : (op : ℕ) (k : Kind) → fm_heard_busy op ≡ true → command_of fm25q16 op ≡ Some k → (r : Regs) (b : List ℕ) → regs_done fm25q16 r b k ≡ r
 busy_quiet op k h e r b =
     ⊎_elim (λ q. rw (← says op ReadStatusLow k q e)) (λ q. rw (← says op ReadStatusHigh k q e)) ((heard_busy_lem op).0 h)
 
-asleep_quiet : (op : ℕ) (w : Write) → fm_heard_asleep op ≡ true → command_of fm25q16 op ≡ Known (Writes w) → ⊥
+asleep_quiet : (op : ℕ) (w : Write) → fm_heard_asleep op ≡ true → command_of fm25q16 op ≡ Some (Writes w) → ⊥
 asleep_quiet op w h e =
     let q = says op Wake (Writes w) ((heard_asleep_lem op).0 h) e in
     let z : ◌≡◌ {A = ℕ} 0 1 = cc in

@@ -1,4 +1,5 @@
 -- What the rules need of any chip, as one record of laws, and what follows from them.
+use Rattle.std.specs.Prelude.{None}
 use mathlib.Core.Path.{◌≡◌, ap}
 use mathlib.Core.Bool.{true}
 use Prim.Native.Nat.{ℕ, ◌+◌, ◌*◌, ◌%◌, ◌≤◌, ◌<◌}
@@ -7,7 +8,6 @@ use Rattle.rules.specs.declared.EraseUnit.{EraseUnit}
 use Rattle.rules.specs.declared.EraseUnit.TheVariants.{Sector, Block32, Block64, Chip}
 use Rattle.rules.specs.declared.Write.{Write}
 use Rattle.rules.specs.declared.Write.TheVariants.{Program, Erase, WriteStatus}
-use Rattle.rules.specs.declared.Command.TheVariants.{Unknown}
 use Rattle.rules.specs.Units.{page, unit_start, unit_length}
 use Rattle.rules.specs.Part.{Part, row_of, command_by, command_of}
 use Rattle.rules.specs.Writes.{reach_start, reach_length}
@@ -50,6 +50,6 @@ module _ (p : Part) (sound : Sound p) where
   size_some = let e = sound.size_is in let f = sound.not_empty in omega arith
 
   -- a number that is no byte says nothing
-  pub no_byte : (op : ℕ) → 255 < op → command_of p op ≡ Unknown
+  pub no_byte : (op : ℕ) → 255 < op → command_of p op ≡ None
   unfolding row_of
   no_byte op h = ap command_by (no_row op p.commands (far p.commands sound.has_byte_codes op h))

@@ -1,4 +1,5 @@
 -- What keeps a chip's registers well formed, as one record of laws.
+use Rattle.std.specs.Prelude.{Some}
 use mathlib.Core.Path.{◌≡◌}
 use mathlib.Core.Bool.{Bool, true, false, not}
 use mathlib.Core.List.{List}
@@ -9,7 +10,6 @@ use Rattle.rules.specs.declared.Regs.{Regs}
 use Rattle.rules.specs.declared.Write.{Write}
 use Rattle.rules.specs.declared.Kind.{Kind}
 use Rattle.rules.specs.declared.Kind.TheVariants.{Sleep, Writes}
-use Rattle.rules.specs.declared.Command.TheVariants.{Known}
 use Rattle.rules.specs.Kinds.{code_of}
 use Rattle.rules.specs.Part.{Part, row_of, command_of}
 use Rattle.rules.specs.Status.{status_of}
@@ -24,8 +24,8 @@ pub record Steady (p : Part) : Type 0 where
   pub ends : p.status_end ≤ 1024
   pub low_bits : p.status_end % 4 ≡ 0
   -- while BUSY is 1 the chip hears nothing that changes a register, and asleep it hears no write
-  pub busy_quiet : (op : ℕ) (k : Kind) → p.heard_busy op ≡ true → command_of p op ≡ Known k → (r : Regs) (b : List ℕ) → regs_done p r b k ≡ r
-  pub asleep_quiet : (op : ℕ) (w : Write) → p.heard_asleep op ≡ true → command_of p op ≡ Known (Writes w) → ⊥
+  pub busy_quiet : (op : ℕ) (k : Kind) → p.heard_busy op ≡ true → command_of p op ≡ Some k → (r : Regs) (b : List ℕ) → regs_done p r b k ≡ r
+  pub asleep_quiet : (op : ℕ) (w : Write) → p.heard_asleep op ≡ true → command_of p op ≡ Some (Writes w) → ⊥
   -- a chip that does not sleep has no such command
   pub sleepless : p.sleeps ≡ false → every_kind not_sleep p.commands ≡ true
   -- a status write sets bits that the chip has, and neither WEL nor awake
@@ -35,7 +35,7 @@ pub record Steady (p : Part) : Type 0 where
   pub status_awake : (r : Regs) (b : List ℕ) → (p.status_written r b).awake ≡ r.awake
 
 -- so no code puts it to sleep
-pub never_sleeps : (p : Part) → Steady p → p.sleeps ≡ false → (op : ℕ) → command_of p op ≡ Known Sleep → ⊥
+pub never_sleeps : (p : Part) → Steady p → p.sleeps ≡ false → (op : ℕ) → command_of p op ≡ Some Sleep → ⊥
 unfolding row_of
 never_sleeps p steady e op h =
     let q = kind_said not_sleep p.commands (steady.sleepless e) op Sleep h in

@@ -1,4 +1,5 @@
 -- What a tape needs of a chip, as one record of laws.
+use Rattle.std.specs.Prelude.{Some}
 use mathlib.Core.Path.{◌≡◌}
 use mathlib.Core.Bool.{true}
 use Prim.Native.Nat.{ℕ, ◌≤◌}
@@ -7,7 +8,6 @@ use Rattle.rules.specs.declared.EraseUnit.{EraseUnit}
 use Rattle.rules.specs.declared.Write.TheVariants.{Program, Erase, WriteStatus}
 use Rattle.rules.specs.declared.Kind.{Kind}
 use Rattle.rules.specs.declared.Kind.TheVariants.{WriteEnable, Writes}
-use Rattle.rules.specs.declared.Command.TheVariants.{Known}
 use Rattle.rules.specs.declared.Regs.{Regs}
 use Rattle.rules.specs.Kinds.{code_of}
 use Rattle.rules.specs.Part.{Part, command_of, shaped}
@@ -17,7 +17,7 @@ use Rattle.laws.proofs.Sound.{Sound}
 
 -- the code of a kind says that kind to the chip, and n bytes without leftover bits are right for it
 pub record Offers (p : Part) (k : Kind) (n : ℕ) : Type 0 where
-  pub known : command_of p (code_of k) ≡ Known k
+  pub known : command_of p (code_of k) ≡ Some k
   pub shape : shaped p (code_of k) n 0 ≡ true
 
 pub record Tapeable (p : Part) : Type 0 where

@@ -1,4 +1,5 @@
 -- The lines of a tape without a fault: which record each is, how long they are, and what is left after some.
+use Rattle.std.specs.Prelude.{Option, Some, None, Ok, Err}
 use mathlib.Core.Path.{◌≡◌, refl, sym, ap, ◌∙◌}
 use mathlib.Core.Bool.{Bool, true, false, true≢false, not, ◌||◌}
 use mathlib.Core.List.{List, [], ◌∷◌, ◌++◌, append_assoc}
@@ -9,18 +10,17 @@ use lib.Dec.{eqb}
 use lib.ListN.{length, get_or, length-append}
 use borrow.Author.Tests.{le-leb, ltb-false, not-false}
 use Rattle.lists.specs.Choice.{if◌then◌otherwise◌, ◌=?◌, ◌<?◌}
-use Rattle.lists.specs.declared.Found.{Found}
-use Rattle.lists.specs.declared.Found.TheVariants.{At, Nothing}
 use Rattle.lists.proofs.Search.{first_none}
-use Rattle.rules.specs.declared.AtPlace.{AtPlace}
-use Rattle.rules.specs.declared.AtPlace.TheVariants.{Transaction, Finish, PowerCycle, End, Fault}
+use Rattle.rules.specs.declared.Refusal.{Refusal}
+use Rattle.rules.specs.declared.Refusal.TheVariants.{CutTape}
+use Rattle.rules.specs.declared.Record.{Record}
+use Rattle.rules.specs.declared.Record.TheVariants.{Transaction, Finish, PowerCycle}
 use Rattle.rules.specs.Listing.{listing_limit, digits3, hex2, space, line_feed, record_text, record_line, lines_from, refused_line, listing_of}
-use Rattle.rules.specs.Refusals.{refusal, accepted}
+use Rattle.rules.specs.Refusals.{number_of, index_of, Checked, passes, refused, accepted, answered}
 use Rattle.rules.specs.Replay.{bad_record}
 use Rattle.rules.specs.Tape.{kind_at, records, whole, good_record, first_bad}
-use Rattle.rules.specs.Reading.{sent_at, read_at, next_place, read_of}
-use Rattle.tape.specs.Record.{said_at}
-use Rattle.tape.proofs.Said.{read_said, said_moves, next-told}
+use Rattle.rules.specs.Reading.{AtPlace, sent_at, read_at, next_place, read_of, said_at}
+use Rattle.tape.proofs.Said.{read_said, next-told}
 use Rattle.lines.specs.Fault.{fault_of}
 use Rattle.lines.specs.Line.{record_width, indexed, line_of}
 use Rattle.lines.proofs.Told.{listing_is}
@@ -31,23 +31,23 @@ use Rattle.lines.proofs.Told.{listing_is}
 pub record Listable (t : List ℕ) : Type 0 where
   pub short : length t ≤ listing_limit
   pub whole_records : whole t ≡ true
-  pub good : first_bad t ≡ Nothing
+  pub good : first_bad t ≡ None
 
-pub listable : (t : List ℕ) → accepted (fault_of t) ≡ true → Listable t
+pub listable : (t : List ℕ) → fault_of t ≡ passes → Listable t
 unfolding fault_of if◌then◌otherwise◌
-listable t e = go (listing_limit <? length t) (whole t) (first_bad t) refl refl refl e
+listable t e = go (listing_limit <? length t) (whole t) (first_bad t) refl refl refl (ap accepted e)
   where
-    go : (a w : Bool) (f : Found) → (listing_limit <? length t) ≡ a → whole t ≡ w → first_bad t ≡ f
-        → accepted (if a || not w then refusal 30 otherwise bad_record f) ≡ true → Listable t
+    go : (a w : Bool) (f : Option ℕ) → (listing_limit <? length t) ≡ a → whole t ≡ w → first_bad t ≡ f
+        → accepted (if a || not w then refused CutTape otherwise bad_record f) ≡ true → Listable t
     go true w f h k g e = absurd (true≢false (sym e))
     go false false f h k g e = absurd (true≢false (sym e))
-    go false true (At i) h k g e = absurd (true≢false (sym e))
-    go false true Nothing h k g e = record { short = ltb-false listing_limit (length t) h; whole_records = k; good = g }
+    go false true (Some i) h k g e = absurd (true≢false (sym e))
+    go false true None h k g e = record { short = ltb-false listing_limit (length t) h; whole_records = k; good = g }
 
 -- ---- a record of it
 
 -- a read there is what the record says
-pub read_there : (t : List ℕ) (p : ℕ) → Listable t → p < records t → read_at t p ≡ said_at t p
+pub read_there : (t : List ℕ) (p : ℕ) → Listable t → p < records t → read_at t p ≡ Ok (Some (said_at t p))
 unfolding first_bad
 read_there t p c h =
     read_said t p c.whole_records h
@@ -55,17 +55,17 @@ read_there t p c h =
 
 pub next-there : (t : List ℕ) (p : ℕ) → Listable t → p < records t → (read_of t p).next ≡ p + 1
 unfolding read_of
-next-there t p c h = sym (next-told p (read_at t p)) ∙ ap (next_place p) (read_there t p c h) ∙ said_moves t p
+next-there t p c h = sym (next-told p (read_at t p)) ∙ ap (next_place p) (read_there t p c h)
 
 -- and its line is the record's
 pub line_there : (t : List ℕ) (p : ℕ) → Listable t → p < records t → line_of t p (read_at t p) ≡ record_line t p
 unfolding record_line said_at if◌then◌otherwise◌
 line_there t p c h = rw (read_there t p c h) (go (eqb (kind_at t p) 0) (eqb (kind_at t p) 1))
   where
-    said : Bool → Bool → AtPlace
+    said : Bool → Bool → Record
     said a b = if a then Transaction (sent_at t p) otherwise if b then Finish otherwise PowerCycle
 
-    go : (a b : Bool) → line_of t p (said a b) ≡ indexed p (record_text t (said a b) ++ line_feed ∷ [])
+    go : (a b : Bool) → line_of t p (Ok (Some (said a b))) ≡ indexed p (record_text t (Ok (Some (said a b))) ++ line_feed ∷ [])
     go true b = refl
     go false true = refl
     go false false = refl
@@ -80,15 +80,15 @@ line_past t p c h = rw (c.whole_records, le-leb (records t) p h)
 
 text_length : (t : List ℕ) (a : AtPlace) → length (record_text t a) ≤ 8
 unfolding if◌then◌otherwise◌
-text_length t (Transaction s) = go (s.length =? 0)
+text_length t (Ok (Some (Transaction s))) = go (s.length =? 0)
   where
     go : (b : Bool) → length (0x54 ∷ space ∷ (if b then 0x2D ∷ 0x2D ∷ [] otherwise hex2 (get_or t s.start 0)) ++ space ∷ digits3 s.length) ≤ 8
     go true = omega arith
     go false = omega arith
-text_length t Finish = omega arith
-text_length t PowerCycle = omega arith
-text_length t End = omega arith
-text_length t (Fault n) = omega arith
+text_length t (Ok (Some Finish)) = omega arith
+text_length t (Ok (Some PowerCycle)) = omega arith
+text_length t (Ok None) = omega arith
+text_length t (Err z) = omega arith
 
 pub line_length : (t : List ℕ) (p : ℕ) → (0 < length (record_line t p)) × (length (record_line t p) ≤ record_width)
 unfolding record_line
@@ -132,19 +132,19 @@ line_more t p =
 
 -- ---- the listing
 
-pub listing_clean : (t : List ℕ) → accepted (fault_of t) ≡ true → listing_of t ≡ lines_from t 0 (records t)
-unfolding if◌then◌otherwise◌
+pub listing_clean : (t : List ℕ) → fault_of t ≡ passes → listing_of t ≡ lines_from t 0 (records t)
+unfolding answered
 listing_clean t e = listing_is t ∙ rw e
 
-pub listing_refused : (t : List ℕ) → accepted (fault_of t) ≡ false → listing_of t ≡ refused_line (fault_of t).number (fault_of t).index
-unfolding if◌then◌otherwise◌
-listing_refused t e = listing_is t ∙ rw e
+pub listing_refused : (t : List ℕ) (z : Refusal) → fault_of t ≡ refused z → listing_of t ≡ refused_line (number_of z) (index_of z)
+unfolding answered
+listing_refused t z e = listing_is t ∙ rw e
 
 -- 248 lines of a record, or one of a fault
 pub listing_short : (t : List ℕ) → length (listing_of t) ≤ 3472
 unfolding refused_line
-listing_short t = go (accepted (fault_of t)) refl
+listing_short t = go (fault_of t) refl
   where
-    go : (b : Bool) → accepted (fault_of t) ≡ b → length (listing_of t) ≤ 3472
-    go true e = omega (arith, ap length (listing_clean t e), lines_length t 0 (records t), (listable t e).short)
-    go false e = omega (arith, ap length (listing_refused t e))
+    go : (y : Checked) → fault_of t ≡ y → length (listing_of t) ≤ 3472
+    go (Ok u) e = omega (arith, ap length (listing_clean t e), lines_length t 0 (records t), (listable t e).short)
+    go (Err z) e = omega (arith, ap length (listing_refused t z e))

@@ -8,7 +8,7 @@ ghost use Rattle.rules.specs.Tape.{whole};
 ghost use Rattle.lines.specs.Fault.{fault_of};
 ghost use Rattle.lines.specs.Line.{record_width, refused_width, indexed, line_of, Laid};
 
-use rules::{AtPlace, LISTING_LIMIT, Refusal, Sent};
+use rules::{Fault, LISTING_LIMIT, Record, Refusal, Sent};
 
 // Room for any record's line, and for a fault's.
 pub const RECORD_WIDTH: usize = 14;
@@ -112,19 +112,23 @@ fn put_indexed(line: &mut [u8], p: usize, text: &[u8]) -> usize
 }
 
 // The line of what a read of the tape at a place found. The end and a fault have none.
-pub fn record_line(tape: &[u8], place: usize, found: AtPlace, line: &mut [u8]) -> usize
+pub fn record_line(
+    tape: &[u8],
+    place: usize,
+    found: Result<Option<Record>, Fault>,
+    line: &mut [u8],
+) -> usize
     requires { record_width ≤ length line.old }
     ensures { Laid result line.new (line_of tape.now place found) line.old }
 {
     match found {
-        AtPlace::Transaction(sent) => {
+        Ok(Some(Record::Transaction(sent))) => {
             let text = transaction_text(tape, sent);
             put_indexed(line, place, &text)
         }
-        AtPlace::Finish => put_indexed(line, place, b"F\n"),
-        AtPlace::PowerCycle => put_indexed(line, place, b"P\n"),
-        AtPlace::End => 0,
-        AtPlace::Fault(_) => 0,
+        Ok(Some(Record::Finish)) => put_indexed(line, place, b"F\n"),
+        Ok(Some(Record::PowerCycle)) => put_indexed(line, place, b"P\n"),
+        Ok(None) | Err(_) => 0,
     }
 }
 
@@ -150,12 +154,12 @@ fn is_long_or_cut(tape: &[u8]) -> bool
     !tape::is_whole(tape)
 }
 
-// 30, then 31; number 0 is none.
-pub fn fault_of(tape: &[u8]) -> Refusal
+// 30, then 31.
+pub fn fault_of(tape: &[u8]) -> Result<(), Refusal>
     ensures { result ≡ fault_of tape.now }
 {
     if is_long_or_cut(tape) {
-        return refusals::refusal(30);
+        return Err(Refusal::CutTape);
     }
     refusals::bad_record(tape::first_bad(tape))
 }

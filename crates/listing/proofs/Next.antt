@@ -1,33 +1,32 @@
 -- What comes next in the listing: the line of the record that the reader is at, or the one line of a fault.
+use Rattle.rules.specs.Refusals as R
 use mathlib.Core.Path.{◌≡◌, refl, sym, ap, ◌∙◌}
 use mathlib.Core.Bool.{Bool, true, false, true≢false, not}
 use mathlib.Core.List.{List, [], ◌++◌, append-nil}
 use Prim.Native.Nat.{ℕ, suc, ◌+◌, ◌-◌, ◌≤◌, ◌<◌, ◌^◌}
 use native.Mathlib.Omega.{arith}
-use native.Mathlib.Nat.{zero-add}
 use lib.Dec.{ltb}
 use lib.ListN.{length, length-append}
-use borrow.Author.Tests.{ltb-true, ltb-false, eq-eqb, ne_eqb}
-use Rattle.rules.specs.declared.AtPlace.{AtPlace}
+use borrow.Author.Tests.{ltb-true, ltb-false}
 use Rattle.rules.specs.declared.Refusal.{Refusal}
 use Rattle.rules.specs.Listing.{record_line, lines_from, refused_line, listing_of}
-use Rattle.rules.specs.Refusals.{accepted}
+use Rattle.rules.specs.Refusals.{number_of, index_of, accepted}
 use Rattle.rules.specs.Tape.{records}
-use Rattle.rules.specs.Reading.{read_at, read_told, read_of}
+use Rattle.rules.specs.Reading.{AtPlace, read_at, read_told, read_of}
 use Rattle.tape.proofs.Said.{read_is}
 use Rattle.lines.specs.Fault.{fault_of}
 use Rattle.lines.specs.Line.{line_of}
 use Rattle.lines.proofs.Lines.{listable, line_there, line_past, line_length, lines_at, line_more, listing_clean, listing_refused, listing_short}
 use Rattle.listing.specs.declared.Handed.{Handed}
-use Rattle.listing.specs.Handed.{Next, Come, AllHanded, Gone}
+use Rattle.listing.specs.Handed.{Next, Come, Gone}
 
 pub not_twice : (b : Bool) → not (not b) ≡ b
 not_twice true = refl
 not_twice false = refl
 
 -- the listing of a tape with a fault
-pub refused : (t : List ℕ) (z : Refusal) → z ≡ fault_of t → 0 < z.number → listing_of t ≡ refused_line z.number z.index
-refused t z e h = listing_refused t (ap accepted (sym e) ∙ ne_eqb z.number 0 (λ k. absurd (omega (arith, k, h)))) ∙ ap (λ (x : Refusal). refused_line x.number x.index) (sym e)
+pub refused : (t : List ℕ) (z : Refusal) → R.refused z ≡ fault_of t → listing_of t ≡ refused_line (number_of z) (index_of z)
+refused t z e = listing_refused t z (sym e)
 
 -- ---- some bytes of the listing
 
@@ -46,20 +45,13 @@ record_next t p n b come h e = record {
 }
 
 -- the one line of a fault
-pub refusal-next : (t : List ℕ) (z : Refusal) (b : List ℕ) → z ≡ fault_of t → 0 < z.number → b ≡ refused_line z.number z.index → Next (listing_of t) 0 b
-refusal-next t z b e h k = record {
+pub refusal-next : (t : List ℕ) (z : Refusal) (b : List ℕ) → R.refused z ≡ fault_of t → b ≡ refused_line (number_of z) (index_of z) → Next (listing_of t) 0 b
+refusal-next t z b e k = record {
   before = [];
   after = [];
   long = refl;
-  is = refused t z e h ∙ sym k ∙ sym (append-nil b);
+  is = refused t z e ∙ sym k ∙ sym (append-nil b);
 }
-
-pub refusal-whole : (t : List ℕ) (z : Refusal) (b : List ℕ) (h : Handed) → z ≡ fault_of t → 0 < z.number → b ≡ refused_line z.number z.index → h.bytes ≡ 0 + length b → AllHanded t h
-refusal-whole t z b h e f k w g = w ∙ zero-add (length b) ∙ ap length (k ∙ sym (refused t z e f))
-
--- a tape without one
-pub no_fault : (t : List ℕ) (z : Refusal) → z ≡ fault_of t → z.number ≡ 0 → accepted (fault_of t) ≡ true
-no_fault t z e h = ap accepted (sym e) ∙ eq-eqb z.number 0 h
 
 -- ---- what the reader found at p
 

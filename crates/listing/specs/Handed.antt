@@ -1,7 +1,7 @@
 -- What the program hands to standard output: the tape's listing, in order and all of it.
 use Rattle.std.specs.Prelude.{◌≡◌, true, false, List, ◌++◌, ℕ, ◌+◌, ◌≤◌, ◌<◌, length}
 use Rattle.rules.specs.Listing.{lines_from, listing_of}
-use Rattle.rules.specs.Refusals.{accepted}
+use Rattle.rules.specs.Refusals.{passes}
 use Rattle.rules.specs.Tape.{records}
 use Rattle.lines.specs.Fault.{fault_of}
 use Rattle.listing.specs.declared.Handed.{Handed}
@@ -15,7 +15,7 @@ pub record Next (text : List ℕ) (n : ℕ) (bytes : List ℕ) : Type 0 where
 
 -- a tape without a fault, whose records before record p take n bytes of its listing
 pub record Come (t : List ℕ) (p n : ℕ) : Type 0 where
-  pub sound : accepted (fault_of t) ≡ true
+  pub sound : fault_of t ≡ passes
   pub within : p ≤ records t
   pub long : n ≡ length (lines_from t 0 p)
 

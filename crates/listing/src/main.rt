@@ -8,7 +8,7 @@ ghost use Rattle.rules.specs.Reading.{read_told, read_of};
 ghost use Rattle.listing.specs.Handed.{Next, Come, Gone, AllHanded};
 
 use lines::{RECORD_WIDTH, REFUSED_WIDTH};
-use rules::{AtPlace, LISTING_LIMIT};
+use rules::{Fault, LISTING_LIMIT, Record};
 use tape::Reader;
 
 // What was handed to standard output: how many bytes, whether more may follow, and whether a write failed.
@@ -35,7 +35,7 @@ fn put(tape: &[u8], done: &mut usize, bytes: &[u8]) -> Handed
 
 // The line of what the reader found at a place. Where it found the end there is none, and no more follows.
 #[tactic(auto, using(crate::proofs::Told::told_long))]
-fn tell(tape: &[u8], place: usize, found: AtPlace, done: &mut usize) -> Handed
+fn tell(tape: &[u8], place: usize, found: Result<Option<Record>, Fault>, done: &mut usize) -> Handed
     requires { (read_told place found ≡ read_of tape.now place) × Come tape.now place done.old }
     ensures { (result.bytes ≡ done.new) × Gone tape.now place result }
 {
@@ -76,15 +76,15 @@ fn list_from(tape: &[u8], place: usize, done: usize) -> Handed
 fn list(tape: &[u8]) -> Handed
     ensures { AllHanded tape.now result }
 {
-    let fault = lines::fault_of(tape);
-    let number = fault.number;
-    if number != 0 {
-        let mut line = [0u8; REFUSED_WIDTH];
-        let n = lines::refused_line(number, fault.index, &mut line);
-        let mut count = 0;
-        return put(tape, &mut count, &line[..n]);
+    match lines::fault_of(tape) {
+        Ok(()) => list_from(tape, 0, 0),
+        Err(refusal) => {
+            let mut line = [0u8; REFUSED_WIDTH];
+            let n = lines::refused_line(refusal.number(), refusal.index(), &mut line);
+            let mut count = 0;
+            put(tape, &mut count, &line[..n])
+        }
     }
-    list_from(tape, 0, 0)
 }
 
 // One byte more than a tape may have, so that a longer one is seen. With both lines, 65,503 bytes: within 64 KiB.

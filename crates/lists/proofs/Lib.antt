@@ -2,6 +2,5 @@ pub mod Choice
 pub mod Tabulate
 pub mod Patched
 pub mod Search
-pub mod Front
 pub mod Lent
 pub mod Sums

@@ -1,4 +1,5 @@
 -- Searches say what they should: none where no place passes the test, else the lowest that does.
+use Rattle.std.specs.Prelude.{Option, Some, None}
 use mathlib.Core.Path.{◌≡◌, refl, sym, ap, ◌∙◌, subst}
 use mathlib.Core.Bool.{Bool, true, false, ◌&&◌}
 use mathlib.Core.Logic.{⊎_elim}
@@ -9,8 +10,6 @@ use lib.Dec.{ltb, leb}
 use borrow.Author.Tests.{lt-ltb, le-ltb, ltb-true, ltb-false, leb-true, leb-false}
 use Rattle.lists.specs.Choice.{if◌then◌otherwise◌, ◌<?◌, ◌≤?◌}
 use Rattle.lists.specs.Places.{first_in, every_in}
-use Rattle.lists.specs.declared.Found.{Found}
-use Rattle.lists.specs.declared.Found.TheVariants.{At, Nothing}
 use Rattle.lists.proofs.Choice.{both_true}
 
 -- x is the lowest of the n numbers from a on at which the test holds
@@ -20,22 +19,22 @@ pub record Lowest (f : ℕ → Bool) (a n x : ℕ) : Type 0 where
   pub holds : f x ≡ true
   pub before : (y : ℕ) → a ≤ y → y < x → f y ≡ false
 
-pub first_none : (f : ℕ → Bool) (a n : ℕ) → first_in f a n ≡ Nothing → (y : ℕ) → a ≤ y → y < a + n → f y ≡ false
+pub first_none : (f : ℕ → Bool) (a n : ℕ) → first_in f a n ≡ None → (y : ℕ) → a ≤ y → y < a + n → f y ≡ false
 unfolding first_in if◌then◌otherwise◌
 first_none f a zero e y h k = absurd (omega arith)
 first_none f a (suc n) e y h k = go (f a) refl e (first_none f (suc a) n)
   where
-    go : (t : Bool) → f a ≡ t → (if t then At a otherwise first_in f (suc a) n) ≡ Nothing
-        → (first_in f (suc a) n ≡ Nothing → (z : ℕ) → suc a ≤ z → z < suc a + n → f z ≡ false) → f y ≡ false
+    go : (t : Bool) → f a ≡ t → (if t then Some a otherwise first_in f (suc a) n) ≡ None
+        → (first_in f (suc a) n ≡ None → (z : ℕ) → suc a ≤ z → z < suc a + n → f z ≡ false) → f y ≡ false
     go true q e ih = let z : ◌≡◌ {A = ℕ} 0 1 = cc in absurd (omega arith)
     go false q e ih = ⊎_elim (λ s. subst (λ (z : ℕ). f z ≡ false) s q) (λ l. ih e y l (omega arith)) (eq-or-lt_of_le h)
 
-pub first_at : (f : ℕ → Bool) (a n x : ℕ) → first_in f a n ≡ At x → Lowest f a n x
+pub first_at : (f : ℕ → Bool) (a n x : ℕ) → first_in f a n ≡ Some x → Lowest f a n x
 unfolding first_in if◌then◌otherwise◌
 first_at f a zero x e = let z : ◌≡◌ {A = ℕ} 0 1 = cc in absurd (omega arith)
 first_at f a (suc n) x e = go (f a) refl e (first_at f (suc a) n x)
   where
-    go : (t : Bool) → f a ≡ t → (if t then At a otherwise first_in f (suc a) n) ≡ At x → (first_in f (suc a) n ≡ At x → Lowest f (suc a) n x) → Lowest f a (suc n) x
+    go : (t : Bool) → f a ≡ t → (if t then Some a otherwise first_in f (suc a) n) ≡ Some x → (first_in f (suc a) n ≡ Some x → Lowest f (suc a) n x) → Lowest f a (suc n) x
     go true q e ih =
         let s : a ≡ x = cc in
         record { from = omega arith; below = omega arith; holds = subst (λ (z : ℕ). f z ≡ true) s q; before = λ y h k. absurd (omega arith) }
@@ -51,7 +50,7 @@ first_at f a (suc n) x e = go (f a) refl e (first_at f (suc a) n x)
         }
 
 -- where no place passes the test, nothing is found
-pub none_first : (f : ℕ → Bool) (a n : ℕ) → ((y : ℕ) → a ≤ y → y < a + n → f y ≡ false) → first_in f a n ≡ Nothing
+pub none_first : (f : ℕ → Bool) (a n : ℕ) → ((y : ℕ) → a ≤ y → y < a + n → f y ≡ false) → first_in f a n ≡ None
 unfolding first_in if◌then◌otherwise◌
 none_first f a zero h = refl
 none_first f a (suc n) h =
@@ -61,17 +60,17 @@ none_first f a (suc n) h =
 -- ---- the first number of a stretch that lies in another
 
 -- the first of the n numbers from a on that lies in [lo, hi)
-abbrev pub overlap : ℕ → ℕ → ℕ → ℕ → Found
-overlap lo hi a n = if max a lo <? min (a + n) hi then At (max a lo) otherwise Nothing
+abbrev pub overlap : ℕ → ℕ → ℕ → ℕ → Option ℕ
+overlap lo hi a n = if max a lo <? min (a + n) hi then Some (max a lo) otherwise None
 
 abbrev inside : ℕ → ℕ → ℕ → Bool
 inside lo hi x = (lo ≤? x) && (x <? hi)
 
-pub overlap_yes : (lo hi a n x : ℕ) → max a lo ≡ x → x < min (a + n) hi → overlap lo hi a n ≡ At x
+pub overlap_yes : (lo hi a n x : ℕ) → max a lo ≡ x → x < min (a + n) hi → overlap lo hi a n ≡ Some x
 unfolding if◌then◌otherwise◌
-overlap_yes lo hi a n x e h = rw (lt-ltb (max a lo) (min (a + n) hi) (omega arith)) (ap At e)
+overlap_yes lo hi a n x e h = rw (lt-ltb (max a lo) (min (a + n) hi) (omega arith)) (ap Some e)
 
-pub overlap_no : (lo hi a n : ℕ) → min (a + n) hi ≤ max a lo → overlap lo hi a n ≡ Nothing
+pub overlap_no : (lo hi a n : ℕ) → min (a + n) hi ≤ max a lo → overlap lo hi a n ≡ None
 unfolding if◌then◌otherwise◌
 overlap_no lo hi a n h = rw (le-ltb (max a lo) (min (a + n) hi) h)
 
@@ -81,7 +80,7 @@ first_overlap lo hi a zero = sym (overlap_no lo hi a 0 (omega arith))
 first_overlap lo hi a (suc n) = go (leb lo a) (ltb a hi) refl refl (first_overlap lo hi (suc a) n)
   where
     go : (t u : Bool) → leb lo a ≡ t → ltb a hi ≡ u → first_in (inside lo hi) (suc a) n ≡ overlap lo hi (suc a) n
-        → (if t && u then At a otherwise first_in (inside lo hi) (suc a) n) ≡ overlap lo hi a (suc n)
+        → (if t && u then Some a otherwise first_in (inside lo hi) (suc a) n) ≡ overlap lo hi a (suc n)
     go true true e f ih =
         let h : lo ≤ a = leb-true lo a e in
         let k : a < hi = ltb-true a hi f in

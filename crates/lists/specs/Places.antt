@@ -1,8 +1,6 @@
 -- Lists that are given by their places, and searches among places.
-use Rattle.std.specs.Prelude.{ℕ, zero, suc, ◌+◌, Bool, true, ◌&&◌, List, [], ◌∷◌, ◌++◌, take, drop}
+use Rattle.std.specs.Prelude.{ℕ, zero, suc, ◌+◌, Bool, true, ◌&&◌, List, [], ◌∷◌, ◌++◌, take, drop, Option, Some, None}
 use Rattle.lists.specs.Choice.{if◌then◌otherwise◌}
-use Rattle.lists.specs.declared.Found.{Found}
-use Rattle.lists.specs.declared.Found.TheVariants.{At, Nothing}
 
 -- f k, f (k + 1), .. : n of them
 unfoldable pub tabulate_from : ℕ → ℕ → (ℕ → ℕ) → List ℕ
@@ -18,9 +16,9 @@ unfoldable pub patched : List ℕ → ℕ → ℕ → (ℕ → ℕ) → List ℕ
 patched l a n f = take a l ++ (tabulate n f ++ drop (a + n) l)
 
 -- the first of the n numbers from a on at which the test holds
-unfoldable pub first_in : (ℕ → Bool) → ℕ → ℕ → Found
-first_in test a zero = Nothing
-first_in test a (suc n) = if test a then At a otherwise first_in test (suc a) n
+unfoldable pub first_in : (ℕ → Bool) → ℕ → ℕ → Option ℕ
+first_in test a zero = None
+first_in test a (suc n) = if test a then Some a otherwise first_in test (suc a) n
 
 -- the test holds at each of the n numbers from a on
 unfoldable pub every_in : (ℕ → Bool) → ℕ → ℕ → Bool

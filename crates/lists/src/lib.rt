@@ -1,13 +1,7 @@
-// What a search among places answers, the byte at a place, the lesser of two numbers. The rest of this crate is definitions and laws.
+// The byte at a place, the lesser of two numbers. The rest of this crate is definitions and laws.
 #![tactic(auto)]
 
 ghost use Rattle.std.specs.Prelude.{◌≡◌, min, get_or};
-
-#[derive(Clone, Copy)]
-pub enum Found {
-    At(usize),
-    Nothing,
-}
 
 // The byte at a place, 0 past the end.
 pub fn byte_at(bytes: &[u8], place: usize) -> u8

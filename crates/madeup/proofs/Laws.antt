@@ -1,4 +1,5 @@
 -- The made-up chip keeps the laws of a chip.
+use Rattle.std.specs.Prelude.{Some}
 use mathlib.Core.Path.{◌≡◌, refl}
 use mathlib.Core.Bool.{true}
 use mathlib.Core.List.{List}
@@ -13,7 +14,6 @@ use Rattle.rules.specs.declared.EraseUnit.TheVariants.{Sector, Block32, Block64,
 use Rattle.rules.specs.declared.Write.TheVariants.{Erase}
 use Rattle.rules.specs.declared.Kind.{Kind}
 use Rattle.rules.specs.declared.Kind.TheVariants.{ReadStatusLow, Writes}
-use Rattle.rules.specs.declared.Command.TheVariants.{Known}
 use Rattle.rules.specs.declared.Regs.{Regs}
 use Rattle.rules.specs.Part.{row_in, row_of, takes, leaves, command_of}
 use Rattle.rules.specs.Status.{status_of}
@@ -72,10 +72,10 @@ mu_tapeable =
 
 -- ---- steady
 
-busy_quiet : (op : ℕ) (k : Kind) → mu_heard_busy op ≡ true → command_of madeup op ≡ Known k → (r : Regs) (b : List ℕ) → regs_done madeup r b k ≡ r
+busy_quiet : (op : ℕ) (k : Kind) → mu_heard_busy op ≡ true → command_of madeup op ≡ Some k → (r : Regs) (b : List ℕ) → regs_done madeup r b k ≡ r
 unfolding madeup mu_heard_busy row_of row_in mu_commands if◌then◌otherwise◌
 busy_quiet op k h e r b =
-    let q : Known ReadStatusLow ≡ Known k = rw (eqb-true op 5 h) at e in
+    let q : Some ReadStatusLow ≡ Some k = rw (eqb-true op 5 h) at e in
     let s : ReadStatusLow ≡ k = cc in
     rw (← s)
 

@@ -1,4 +1,5 @@
 -- What the rules make of each row is what the row expects.
+use Rattle.std.specs.Prelude.{Ok, Err}
 use mathlib.Core.Path.{◌≡◌, refl, ap}
 use mathlib.Core.Bool.{false, ◌&&◌}
 use mathlib.Core.List.{[], ◌∷◌, map}
@@ -8,7 +9,6 @@ use borrow.Author.Tests.{lt-leb}
 use Rattle.lists.specs.Choice.{if◌then◌otherwise◌, ◌<?◌, ◌≤?◌}
 use Rattle.lists.specs.Places.{every_in}
 use Rattle.rules.specs.declared.Kept.{Kept}
-use Rattle.rules.specs.declared.Refusal.{Refusal}
 use Rattle.rules.specs.declared.Kind.TheVariants.{ReadJedec}
 use Rattle.rules.specs.declared.EraseUnit.TheVariants.{Block64}
 use Rattle.rules.specs.declared.Step.TheVariants.{EraseAt, Guard}
@@ -21,7 +21,7 @@ use Rattle.rules.specs.Protection.{is_protected, was_found, some_protected}
 use Rattle.rules.specs.Writes.{locked}
 use Rattle.rules.specs.Verdict.{address_of, unheard_asleep, unheard_busy, verdict_of, verdict_told}
 use Rattle.rules.specs.Transaction.{from_place, driven_at}
-use Rattle.rules.specs.Refusals.{refusal, refusal_at, ◌or_else◌}
+use Rattle.rules.specs.Refusals.{number_of, index_of, Checked, passes, ◌or_else◌}
 use Rattle.rules.specs.Job.{step_count, unit_by, decoded_erase, decoded_lay, decoded_guard, decoded_at, all_regs_meant}
 use Rattle.rules.specs.JobRefusals.{shielded, step_refusal, steps_refusal}
 use Rattle.laws.proofs.Protection.{first_protected_lem, bare_none}
@@ -33,26 +33,31 @@ use Rattle.madeup.specs.Readings.{Reading, readings, Word, words, Job, jobs}
 abbrev awake_at : ℕ → Kept
 awake_at w = record { status = w; awake = 1 }
 
-abbrev number_of : Reading → ℕ
-number_of e = (verdict_told (verdict_of madeup (regs_of (awake_at e.status)) e.bytes 0 false)).number
+abbrev verdict_number : Reading → ℕ
+verdict_number e = (verdict_told (verdict_of madeup (regs_of (awake_at e.status)) e.bytes 0 false)).number
 
 some_overlap : (p : Part) (s a n : ℕ) → some_protected p s a n ≡ was_found (overlap (p.lo s) (p.hi s) a n)
 unfolding some_protected
 some_overlap p s a n = ap was_found (first_protected_lem p s a n)
 
 -- the area is asked at its ends, so that no byte of a stretch is counted
-pub verdicts_are_the_rows : map number_of readings ≡ map (λ (e : Reading). e.number) readings
+pub verdicts_are_the_rows : map verdict_number readings ≡ map (λ (e : Reading). e.number) readings
 unfolding readings madeup mu_commands mu_heard_asleep mu_heard_busy mu_lo mu_hi regs_of takes leaves row_in row_of verdict_of address_of unheard_asleep unheard_busy locked of_write of_known if◌then◌otherwise◌
-verdicts_are_the_rows = simp (some_overlap, number_of)
+verdicts_are_the_rows = simp (some_overlap, verdict_number)
 
 pub words_are_the_rows : map (λ (e : Word). well_formed madeup e.kept) words ≡ map (λ (e : Word). e.formed) words
 unfolding words madeup word_formed awake_formed well_formed
 words_are_the_rows = refl
 
-abbrev refusal_of : Job → Refusal
+-- number and index of a refusal; where there is none, 0 and 0
+abbrev told : Checked → ℕ × ℕ
+told (Ok u) = (0, 0)
+told (Err z) = (number_of z, index_of z)
+
+abbrev refusal_of : Job → Checked
 refusal_of e = steps_refusal madeup e.setting 4 e.job 0 (step_count e.job)
 
-pub refusals_are_the_rows : map refusal_of jobs ≡ map (λ (e : Job). refusal_at e.number e.index) jobs
+pub refusals_are_the_rows : map (λ (e : Job). told (refusal_of e)) jobs ≡ map (λ (e : Job). (e.number, e.index)) jobs
 unfolding jobs madeup mu_erases mu_lo mu_hi steps_refusal step_refusal ◌or_else◌ decoded_at decoded_erase decoded_lay decoded_guard unit_by every_in if◌then◌otherwise◌
 refusals_are_the_rows = simp first_protected_lem
 
@@ -77,6 +82,6 @@ below lo hi x h = rw (lt-leb lo x h)
 near : (x : ℕ) → x < 131072 → x < 983040
 near x h = omega arith
 
-pub block_erased : step_refusal madeup 15 0 0 (EraseAt Block64 0x012345) ≡ refusal 0
+pub block_erased : step_refusal madeup 15 0 0 (EraseAt Block64 0x012345) ≡ passes
 unfolding madeup mu_erases mu_lo mu_hi step_refusal is_protected if◌then◌otherwise◌
 block_erased = ap (shielded 0) (bare_none madeup 15 0x010000 65536 (λ x h k. below 983040 1048576 x (near x k)))

@@ -19,6 +19,7 @@ use Rattle.rules.specs.Transaction.{turn_of}
 use Rattle.rules.specs.Tape.{Rec}
 use Rattle.rules.specs.Play.{State, state, play}
 use Rattle.rules.specs.Job.{step_count, steps_of}
+use Rattle.rules.specs.Refusals.{passes}
 use Rattle.rules.specs.JobRefusals.{steps_refusal}
 use Rattle.rules.specs.Records.{job_recs}
 use Rattle.laws.proofs.Rows.{Each}
@@ -59,7 +60,7 @@ stays_formed kept l m es h =
 -- ---- demand 3: steps that 22 to 25 let pass, played on a fit chip, do what they mean, and none is ignored
 
 module _ (job payload : List ℕ) (s : State) (fit : Fit madeup s)
-    (ok : (steps_refusal madeup s.regs.setting (length payload) job 0 (step_count job)).number ≡ 0) where
+    (ok : steps_refusal madeup s.regs.setting (length payload) job 0 (step_count job) ≡ passes) where
   pub job_means : play madeup (job_recs madeup payload (steps_of job)) s ≡ after_job madeup payload (steps_of job) s
   job_means = demand3 madeup mu_tapeable payload (steps_of job) s fit (job_ok madeup _ (length payload) job 0 (step_count job) ok)
 

@@ -13,38 +13,31 @@ fn count(m: Meter, w: Write) -> Meter
     requires { Room m 1 }
     ensures { result ≡ counted m w }
 {
-    let mut t = m;
     match w {
-        Write::Program => {
-            t.programs = m.programs + 1;
-        }
-        Write::Erase(_) => {
-            t.erases = m.erases + 1;
-        }
-        Write::WriteStatus => {
-            t.register_writes = m.register_writes + 1;
-        }
+        Write::Program => Meter {
+            programs: m.programs + 1,
+            ..m
+        },
+        Write::Erase(_) => Meter {
+            erases: m.erases + 1,
+            ..m
+        },
+        Write::WriteStatus => Meter {
+            register_writes: m.register_writes + 1,
+            ..m
+        },
     }
-    t
 }
 
 // Of what was carried out the writes count, each in its own count; nothing else does.
+#[tactic(auto, unfolding(rules::specs::Kinds::of_write))]
 pub fn meter_step(meter: Meter, kind: Kind) -> Meter
     requires { Room meter 1 }
     ensures { result ≡ of_write kind meter (counted meter) }
 {
     match kind {
-        Kind::WriteEnable => meter,
-        Kind::WriteDisable => meter,
-        Kind::ReadStatusLow => meter,
-        Kind::ReadStatusHigh => meter,
-        Kind::Read => meter,
-        Kind::FastRead => meter,
-        Kind::Sleep => meter,
-        Kind::Wake => meter,
-        Kind::ReadMakerDevice => meter,
-        Kind::ReadJedec => meter,
         Kind::Writes(w) => count(meter, w),
+        _ => meter,
     }
 }
 
@@ -52,33 +45,26 @@ pub fn one_ignored(meter: Meter) -> Meter
     requires { Room meter 1 }
     ensures { result ≡ ignored_counted meter }
 {
-    let mut t = meter;
-    t.ignored = meter.ignored + 1;
-    t
+    Meter {
+        ignored: meter.ignored + 1,
+        ..meter
+    }
 }
 
-// n more fit a count.
+// n more fit a count: n may be of any size, so the sum saturates.
 fn fits_count(count: u32, n: usize) -> bool
     ensures { result ≡ (count + n ≤? count_limit) }
 {
-    if COUNT_LIMIT < n {
-        return false;
-    }
-    count as usize <= COUNT_LIMIT - n
+    (count as usize).saturating_add(n) <= COUNT_LIMIT
 }
 
 // No count plus so many exceeds the limit; else refusal 7.
+#[tactic(auto, unfolding(rules::specs::Counts::room))]
 pub fn has_room(meter: Meter, more: usize) -> bool
     ensures { result ≡ room meter more }
 {
-    if !fits_count(meter.programs, more) {
-        return false;
-    }
-    if !fits_count(meter.erases, more) {
-        return false;
-    }
-    if !fits_count(meter.register_writes, more) {
-        return false;
-    }
-    fits_count(meter.ignored, more)
+    fits_count(meter.programs, more)
+        && fits_count(meter.erases, more)
+        && fits_count(meter.register_writes, more)
+        && fits_count(meter.ignored, more)
 }

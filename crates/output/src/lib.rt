@@ -1,5 +1,5 @@
 // What a command drives on the output, place by place.
-#![tactic(auto)]
+#![tactic(auto, using(lists::proofs::Tabulate::by_places, crate::proofs::From::from_lent, crate::proofs::From::from_none))]
 
 ghost use Rattle.std.specs.Prelude.{◌≡◌, ◌≤◌, ◌<◌, length};
 ghost use Rattle.lists.specs.Places.{tabulate};
@@ -14,11 +14,9 @@ fn byte_from(out: &mut [u8], k: usize, v: u8)
     ensures { out.new ≡ tabulate (length out.old) (from_place k (λ j. v)) }
 {
     cells::fill(out, 255);
-    let n = out.len();
-    if n <= k {
-        return;
+    if k < out.len() {
+        cells::fill(&mut out[k..], v);
     }
-    cells::fill(&mut out[k..n], v);
 }
 
 // FF, and from place k on the array from address a on.
@@ -27,11 +25,9 @@ fn array_from(out: &mut [u8], k: usize, part: u32, array: &[u8], a: usize)
     ensures { out.new ≡ tabulate (length out.old) (from_place k (array_from (part_of part) array.now a)) }
 {
     cells::fill(out, 255);
-    let n = out.len();
-    if n <= k {
-        return;
+    if k < out.len() {
+        cells::copy_wrapped(&mut out[k..], array, a);
     }
-    cells::copy_wrapped(&mut out[k..n], array, a);
 }
 
 // FF, and from place 4 on two bytes in turn.
@@ -39,11 +35,9 @@ fn pair_from(out: &mut [u8], first: u8, second: u8)
     ensures { out.new ≡ tabulate (length out.old) (from_place 4 (in_turn first second)) }
 {
     cells::fill(out, 255);
-    let n = out.len();
-    if n <= 4 {
-        return;
+    if 4 < out.len() {
+        cells::in_turn(&mut out[4..], first, second);
     }
-    cells::in_turn(&mut out[4..n], first, second);
 }
 
 // FF, and from place 4 on maker and device byte in turn, device first if the lowest address bit is 1.
@@ -53,20 +47,18 @@ fn maker_device_from(out: &mut [u8], part: u32, b: &[u8])
     let maker = parts::maker(part);
     let device = parts::device(part);
     if lists::byte_at(b, 3) % 2 == 0 {
-        pair_from(out, maker, device);
-        return;
+        pair_from(out, maker, device)
+    } else {
+        pair_from(out, device, maker)
     }
-    pair_from(out, device, maker);
 }
 
 // The JEDEC bytes, FF after the last.
 fn jedec(out: &mut [u8], part: u32)
     ensures { out.new ≡ tabulate (length out.old) (part_of part).jedec }
 {
-    let mut i = 0;
-    while i < out.len() {
-        out[i] = parts::jedec(part, i);
-        i += 1;
+    for (i, byte) in out.iter_mut().enumerate() {
+        *byte = parts::jedec(part, i);
     }
 }
 
@@ -75,11 +67,9 @@ fn jedec_from(out: &mut [u8], part: u32)
     ensures { out.new ≡ tabulate (length out.old) (from_place 1 (part_of part).jedec) }
 {
     cells::fill(out, 255);
-    let n = out.len();
-    if n <= 1 {
-        return;
+    if 1 < out.len() {
+        jedec(&mut out[1..], part);
     }
-    jedec(&mut out[1..n], part);
 }
 
 // What a command that is carried out drives.

@@ -3,7 +3,7 @@ use mathlib.Core.Path.{◌≡◌, sym}
 use mathlib.Core.List.{List, [], ◌∷◌}
 use Prim.Native.Nat.{ℕ}
 use Rattle.rules.specs.declared.Row.{Row}
-use Rattle.rules.specs.declared.Listed.TheVariants as L
+use Rattle.std.specs.Prelude.{None}
 use Rattle.rules.specs.Part.{row_in}
 use Rattle.laws.proofs.Rows as rows
 use Rattle.laws.proofs.Rows.{Unlisted, end, ◌⊳◌}
@@ -17,5 +17,5 @@ unlisted : (A : Type 0) (ws : List Row) (op : ℕ) → Apart A ws op → A × Un
 unlisted A [] op r = (r, end)
 unlisted A (w ∷ ws) op r = let h = unlisted _ ws op r in (h.0.0, h.0.1 ⊳ h.1)
 
-pub no_row : (A : Type 0) (ws : List Row) (op : ℕ) → Apart A ws op → L.Unlisted ≡ row_in ws op
+pub no_row : (A : Type 0) (ws : List Row) (op : ℕ) → Apart A ws op → None ≡ row_in ws op
 no_row A ws op r = sym (rows.no_row op ws (unlisted A ws op r).1)

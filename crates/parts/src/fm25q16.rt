@@ -5,7 +5,7 @@ ghost use Rattle.rules.specs.Fm25q16.{fm_size, fm_commands, fm_heard_asleep, fm_
 ghost use Rattle.rules.specs.Job.{guard_limit};
 
 use crate::rows::{exactly, line, or_more};
-use rules::{Bytes, EraseUnit, Kind, Leftover, Listed, Regs, Write};
+use rules::{Bytes, EraseUnit, Kind, Leftover, Regs, Row, Write};
 
 pub const SIZE: usize = 2097152;
 
@@ -27,7 +27,7 @@ const SEC0: [usize; 8] = [0, 65536, 131072, 262144, 524288, 1048576, 2097152, 20
 
 const SEC1: [usize; 8] = [0, 4096, 8192, 16384, 32768, 32768, 2097152, 2097152];
 
-pub fn row_of(op: u8) -> Listed
+pub fn row_of(op: u8) -> Option<Row>
     ensures { result ≡ row_in fm_commands op }
 {
     match op {
@@ -58,7 +58,7 @@ pub fn row_of(op: u8) -> Listed
         0xAB => or_more(0xAB, Kind::Wake, 1),
         0x90 => or_more(0x90, Kind::ReadMakerDevice, 4),
         0x9F => or_more(0x9F, Kind::ReadJedec, 1),
-        _ => Listed::Unlisted,
+        _ => None,
     }
 }
 

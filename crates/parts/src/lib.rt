@@ -1,7 +1,7 @@
 // What the code asks of a chip's description, by part number. A new chip is an arm in each of these; no contract moves.
 #![tactic(auto)]
 
-use rules::{Command, EraseUnit, Kept, Listed, Regs};
+use rules::{EraseUnit, Kept, Kind, Regs, Row};
 
 mod fm25q16;
 pub mod rows;
@@ -93,13 +93,13 @@ pub fn status_written(part: u32, regs: Regs, bytes: &[u8]) -> Regs
 // ---- its commands
 
 // The line of a code.
-pub fn row_of(part: u32, op: u8) -> Listed
+pub fn row_of(part: u32, op: u8) -> Option<Row>
     ensures { result ≡ row_of (part_of part) op }
 {
     fm25q16::row_of(op)
 }
 
-pub fn command_of(part: u32, op: u8) -> Command
+pub fn command_of(part: u32, op: u8) -> Option<Kind>
     ensures { result ≡ command_of (part_of part) op }
 {
     rows::command_by(row_of(part, op))

@@ -1,14 +1,14 @@
 // The lines of a chip's table of commands, and what they ask of a transaction.
-ghost use Rattle.std.specs.Prelude.{◌≡◌};
+ghost use Rattle.std.specs.Prelude.{◌≡◌, Some};
 ghost use Rattle.rules.specs.Part.{row, takes, leaves, command_by, shaped_by};
 
-use rules::{Bytes, Command, Kind, Leftover, Listed, Row};
+use rules::{Bytes, Kind, Leftover, Row};
 
 // The only maker of a line.
-pub fn line(code: u8, kind: Kind, bytes: Bytes, leftover: Leftover) -> Listed
-    ensures { result ≡ Listed.Line (row code kind bytes leftover) }
+pub fn line(code: u8, kind: Kind, bytes: Bytes, leftover: Leftover) -> Option<Row>
+    ensures { result ≡ Some (row code kind bytes leftover) }
 {
-    Listed::Line(Row {
+    Some(Row {
         code: code,
         kind: kind,
         bytes: bytes,
@@ -17,15 +17,15 @@ pub fn line(code: u8, kind: Kind, bytes: Bytes, leftover: Leftover) -> Listed
 }
 
 // Exactly so many bytes, and no leftover bits.
-pub fn exactly(code: u8, kind: Kind, count: usize) -> Listed
-    ensures { result ≡ Listed.Line (row code kind (Bytes.Exactly count) Leftover.NoBits) }
+pub fn exactly(code: u8, kind: Kind, count: usize) -> Option<Row>
+    ensures { result ≡ Some (row code kind (Bytes.Exactly count) Leftover.NoBits) }
 {
     line(code, kind, Bytes::Exactly(count), Leftover::NoBits)
 }
 
 // So many bytes or more, whatever is left over.
-pub fn or_more(code: u8, kind: Kind, count: usize) -> Listed
-    ensures { result ≡ Listed.Line (row code kind (Bytes.OrMore count) Leftover.AnyBits) }
+pub fn or_more(code: u8, kind: Kind, count: usize) -> Option<Row>
+    ensures { result ≡ Some (row code kind (Bytes.OrMore count) Leftover.AnyBits) }
 {
     line(code, kind, Bytes::OrMore(count), Leftover::AnyBits)
 }
@@ -54,20 +54,17 @@ fn leaves(leftover: Leftover, x: u32) -> bool
     }
 }
 
-pub fn command_by(listed: Listed) -> Command
+pub fn command_by(listed: Option<Row>) -> Option<Kind>
     ensures { result ≡ command_by listed }
 {
     match listed {
-        Listed::Line(w) => {
-            let kind = w.kind;
-            Command::Known(kind)
-        }
-        Listed::Unlisted => Command::Unknown,
+        Some(w) => Some(w.kind),
+        None => None,
     }
 }
 
 fn fits(w: Row, n: usize, x: u32) -> bool
-    ensures { result ≡ shaped_by (Listed.Line w) n x }
+    ensures { result ≡ shaped_by (Some w) n x }
 {
     let bytes = w.bytes;
     if !takes(bytes, n) {
@@ -78,11 +75,11 @@ fn fits(w: Row, n: usize, x: u32) -> bool
 }
 
 // n bytes and x leftover bits are right for the line.
-pub fn shaped_by(listed: Listed, count: usize, leftover: u32) -> bool
+pub fn shaped_by(listed: Option<Row>, count: usize, leftover: u32) -> bool
     ensures { result ≡ shaped_by listed count leftover }
 {
     match listed {
-        Listed::Line(w) => fits(w, count, leftover),
-        Listed::Unlisted => false,
+        Some(w) => fits(w, count, leftover),
+        None => false,
     }
 }

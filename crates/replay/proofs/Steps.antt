@@ -8,8 +8,8 @@ use native.Mathlib.Numerals.{add-one}
 use lib.ListN.{take}
 use lib.Dec.{eqb}
 use Rattle.lists.specs.Choice.{if◌then◌otherwise◌}
-use Rattle.rules.specs.declared.AtPlace.{AtPlace}
-use Rattle.rules.specs.declared.AtPlace.TheVariants.{Transaction, Finish, PowerCycle}
+use Rattle.rules.specs.declared.Record.{Record}
+use Rattle.rules.specs.declared.Record.TheVariants.{Transaction, Finish, PowerCycle}
 use Rattle.rules.specs.declared.Sent.{Sent}
 use Rattle.rules.specs.declared.Regs.{Regs}
 use Rattle.rules.specs.declared.Meter.{Meter}
@@ -24,10 +24,10 @@ use Rattle.rules.specs.Verdict.{verdict_of}
 use Rattle.rules.specs.Transaction.{regs_after, array_after, turn_of}
 use Rattle.rules.specs.Counts.{counted, meter_after}
 use Rattle.rules.specs.Tape.{Rec, transaction, finish, power_cycle, kind_at, rec_at, recs_from}
-use Rattle.rules.specs.Reading.{sent_at}
+use Rattle.rules.specs.Reading.{sent_at, said_at}
 use Rattle.rules.specs.Play.{State, state, play_rec, play}
 use Rattle.laws.specs.Room.{Room}
-use Rattle.tape.specs.Record.{rec_of, said_at}
+use Rattle.tape.specs.Record.{rec_of}
 use Rattle.tape.proofs.Said.{said_rec}
 use Rattle.laws.proofs.CarriedOut.{by_write}
 
@@ -99,9 +99,9 @@ take_recs t p (suc k) (suc n) =
 -- ---- what a read of a good record says
 
 -- the record that was read is the record that is played
-pub said_played : (p : Part) (t : List ℕ) (k : ℕ) (s : State) (f : AtPlace) → f ≡ said_at t k → play_rec p (rec_of t f) s ≡ play_rec p (rec_at t k) s
+pub said_played : (p : Part) (t : List ℕ) (k : ℕ) (s : State) (f : Record) → f ≡ said_at t k → play_rec p (rec_of t f) s ≡ play_rec p (rec_at t k) s
 said_played p t k s f e =
-    ap (λ (g : AtPlace). play_rec p (rec_of t g) s) e ∙ ap (λ (r : Rec). play_rec p r s) (sym (said_rec t k))
+    ap (λ (g : Record). play_rec p (rec_of t g) s) e ∙ ap (λ (r : Rec). play_rec p r s) (sym (said_rec t k))
 
 -- a transaction lies where its record says
 pub said_sent : (t : List ℕ) (p : ℕ) (s : Sent) → Transaction s ≡ said_at t p → s ≡ sent_at t p

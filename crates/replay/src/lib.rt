@@ -10,7 +10,7 @@ ghost use Rattle.rules.specs.Replay.{records_refusal, replay_refusal, replay_tol
 ghost use Rattle.laws.specs.Room.{Room};
 ghost use Rattle.replay.specs.Playable.{Playable};
 
-use rules::{AtPlace, Kept, Meter, Played, Refusal, Regs, Replayed, Sent};
+use rules::{Kept, Meter, Played, Record, Refusal, Regs, Sent};
 
 // What a record changes besides the array.
 #[derive(Clone, Copy)]
@@ -24,24 +24,19 @@ fn play_sent(part: u32, s: Playing, array: &mut [u8], tape: &[u8], sent: Sent) -
     requires { (length array.old ≡ (part_of part).size) × (sent.length ≤ sent_limit) × (sent.start + sent.length ≤ length tape.now) × Room s.meter 1 }
     ensures { state result.regs array.new result.meter ≡ play_rec (part_of part) (transaction (take sent.length (drop sent.start tape.now)) sent.leftover sent.high) (state s.regs array.old s.meter) }
 {
-    let start = sent.start;
-    let end = start + sent.length;
-    let r = s.regs;
-    let m = s.meter;
+    let end = sent.start + sent.length;
     let t = chip::turn(
         part,
-        r,
-        m,
+        s.regs,
+        s.meter,
         array,
-        &tape[start..end],
+        &tape[sent.start..end],
         sent.leftover as u32,
         sent.high,
     );
-    let next = t.regs;
-    let meter = t.meter;
     Playing {
-        regs: next,
-        meter: meter,
+        regs: t.regs,
+        meter: t.meter,
     }
 }
 
@@ -50,16 +45,10 @@ fn play_at(part: u32, s: Playing, array: &mut [u8], tape: &[u8], p: usize) -> Pl
     requires { (length array.old ≡ (part_of part).size) × Playable tape.now (p + 1) × Room s.meter 1 }
     ensures { state result.regs array.new result.meter ≡ play_rec (part_of part) (rec_at tape.now p) (state s.regs array.old s.meter) }
 {
-    let found = tape::said_at(tape, p);
-    let r = s.regs;
-    let m = s.meter;
-    match found {
-        AtPlace::Transaction(sent) => play_sent(part, s, array, tape, sent),
-        AtPlace::Finish => ended(r, m),
-        AtPlace::PowerCycle => cycled(r, m),
-        // A record that is there and good is no end and no fault.
-        AtPlace::End => cycled(r, m),
-        AtPlace::Fault(_) => cycled(r, m),
+    match tape::said_at(tape, p) {
+        Record::Transaction(sent) => play_sent(part, s, array, tape, sent),
+        Record::Finish => ended(s.regs, s.meter),
+        Record::PowerCycle => cycled(s.regs, s.meter),
     }
 }
 
@@ -98,35 +87,32 @@ fn play_first(part: u32, start: Playing, array: &mut [u8], tape: &[u8], count: u
 // ---- the checks, all before the first record
 
 // 31, then 7.
-fn refuse_records(m: Meter, tape: &[u8]) -> Refusal
+fn refuse_records(m: Meter, tape: &[u8]) -> Result<(), Refusal>
     ensures { result ≡ records_refusal m tape.now }
 {
-    let z = refusals::bad_record(tape::first_bad(tape));
-    let number = z.number;
-    if number != 0 {
-        return z;
-    }
+    refusals::bad_record(tape::first_bad(tape))?;
     if !meter::has_room(m, tape::record_count(tape)) {
-        return refusals::refusal(7);
+        return Err(Refusal::MeterFull);
     }
-    refusals::refusal(0)
+    Ok(())
 }
 
 // 1, 2, 3, 30, 31, 7: array of al bytes.
-fn refusal_of(part: u32, al: usize, kept: Kept, m: Meter, tape: &[u8]) -> Refusal
+#[tactic(auto, using(lists::proofs::Choice::choices, std::proofs::lemmas::Bool::Decides::nat_tests), unfolding(rules::specs::Replay::replay_refusal))]
+fn refusal_of(part: u32, al: usize, kept: Kept, m: Meter, tape: &[u8]) -> Result<(), Refusal>
     ensures { result ≡ replay_refusal part al kept m tape.now }
 {
     if !parts::is_part(part) {
-        return refusals::refusal(1);
+        return Err(Refusal::UnknownPart);
     }
     if al != parts::size_of(part) {
-        return refusals::refusal(2);
+        return Err(Refusal::ArrayLength);
     }
     if !parts::well_formed(part, kept) {
-        return refusals::refusal(3);
+        return Err(Refusal::NotWellFormed);
     }
     if !tape::is_whole(tape) {
-        return refusals::refusal(30);
+        return Err(Refusal::CutTape);
     }
     refuse_records(m, tape)
 }
@@ -141,30 +127,30 @@ pub fn replay_first(
     array: &mut [u8],
     tape: &[u8],
     k: usize,
-) -> Replayed
+) -> Result<Played, Refusal>
     ensures { replay_seen (replay_told kept meter result) array.new ≡ replay_first_of part kept meter array.old tape.now k }
 {
-    let z = refusal_of(part, array.len(), kept, meter, tape);
-    let number = z.number;
-    if number != 0 {
-        return Replayed::Refused(z);
-    }
+    refusal_of(part, array.len(), kept, meter, tape)?;
     let n = lists::lesser(k, tape::record_count(tape));
     let start = Playing {
-        regs: regs::regs_of(kept),
+        regs: Regs::from(kept),
         meter: meter,
     };
     let s = play_first(part, start, array, tape, n);
-    let next = s.regs;
-    let meter = s.meter;
-    Replayed::Ended(Played {
-        regs: regs::kept_of(next),
-        meter: meter,
+    Ok(Played {
+        regs: Kept::from(s.regs),
+        meter: s.meter,
     })
 }
 
 // The whole tape.
-pub fn replay(part: u32, kept: Kept, meter: Meter, array: &mut [u8], tape: &[u8]) -> Replayed
+pub fn replay(
+    part: u32,
+    kept: Kept,
+    meter: Meter,
+    array: &mut [u8],
+    tape: &[u8],
+) -> Result<Played, Refusal>
     ensures { replay_seen (replay_told kept meter result) array.new ≡ replay_of part kept meter array.old tape.now }
 {
     replay_first(part, kept, meter, array, tape, tape::record_count(tape))

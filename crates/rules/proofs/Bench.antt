@@ -1,4 +1,5 @@
 -- B1 to B10 under one claim: what the rules make of each row is what the row expects.
+use Rattle.std.specs.Prelude.{Ok, Err}
 use mathlib.Core.Path.{◌≡◌, refl, ap, ◌∙◌}
 use mathlib.Core.Bool.{Bool, true, false}
 use mathlib.Core.List.{List, [], ◌∷◌, map}
@@ -27,7 +28,7 @@ use Rattle.rules.specs.Verdict.{address_of, unheard_asleep, unheard_busy, verdic
 use Rattle.rules.specs.Transaction.{from_place, array_after, Turn, turn_of}
 use Rattle.rules.specs.Counts.{room}
 use Rattle.rules.specs.Events.{finished}
-use Rattle.rules.specs.Refusals.{accepted, transact_refusal, event_refusal}
+use Rattle.rules.specs.Refusals.{Checked, answered, transact_refusal, event_refusal}
 use Rattle.rules.specs.Transact.{TransactSeen, is_high, transact_served, transact_refused, transact_of}
 use Rattle.rules.specs.EventEntries.{event_of, finish_of}
 use Rattle.rules.specs.Bench.{Fact, holds, Reading, Seen, readings, blank, stored, array_at, look_at, finishing, seen_of, buffer, observed, counts}
@@ -86,10 +87,9 @@ turn_at t = turn_of (part_of 1) (regs_of t.start) (array_at t) t.bytes 0 (is_hig
 -- .. and what is seen of it, with the array's length as a number
 transacted_at : ℕ → Reading → TransactSeen
 transacted_at n t =
-    let z = transact_refusal 1 n t.start (length t.bytes) 0 (length (buffer t)) (counts 0 0 0 0) in
-    if accepted z
-    then transact_served t.start (counts 0 0 0 0) (buffer t) t.bytes (turn_at t)
-    otherwise transact_refused t.start (counts 0 0 0 0) (array_at t) (buffer t) z
+    answered (transact_refusal 1 n t.start (length t.bytes) 0 (length (buffer t)) (counts 0 0 0 0))
+    (transact_served t.start (counts 0 0 0 0) (buffer t) t.bytes (turn_at t))
+    (transact_refused t.start (counts 0 0 0 0) (array_at t) (buffer t))
 
 observed_at : ℕ → Reading → Seen
 observed_at n t =
@@ -106,18 +106,18 @@ observed_at n t =
     }
 
 stays : (n : ℕ) (t : Reading) (y : ℕ) → y < changed_from t.bytes (turn_at t).verdict → get_or (transacted_at n t).array y 0 ≡ get_or (array_at t) y 0
-unfolding transacted_at transact_served transact_refused turn_at turn_of array_at if◌then◌otherwise◌
-stays n t y h = go (accepted (transact_refusal 1 n t.start (length t.bytes) 0 (length (buffer t)) (counts 0 0 0 0)))
+unfolding transacted_at transact_served transact_refused turn_at turn_of array_at answered
+stays n t y h = go (transact_refusal 1 n t.start (length t.bytes) 0 (length (buffer t)) (counts 0 0 0 0))
   where
-    go : (u : Bool)
+    go : (u : Checked)
         → get_or
-        (if u
-        then transact_served t.start (counts 0 0 0 0) (buffer t) t.bytes (turn_at t)
-        otherwise transact_refused t.start (counts 0 0 0 0) (array_at t) (buffer t) (transact_refusal 1 n t.start (length t.bytes) 0 (length (buffer t)) (counts 0 0 0 0))).array
+        (answered u
+        (transact_served t.start (counts 0 0 0 0) (buffer t) t.bytes (turn_at t))
+        (transact_refused t.start (counts 0 0 0 0) (array_at t) (buffer t))).array
         y 0
         ≡ get_or (array_at t) y 0
-    go true = below (array_at t) t.bytes (turn_at t).verdict (stored-length t.facts 2097152) y h
-    go false = refl
+    go (Ok u) = below (array_at t) t.bytes (turn_at t).verdict (stored-length t.facts 2097152) y h
+    go (Err z) = refl
 
 observed_at_lem : (t : Reading) → observed t ≡ observed_at 2097152 t
 unfolding observed observed_at transacted_at turn_at transact_of array_at seen_of
@@ -140,7 +140,7 @@ each [] = refl
 each (t ∷ ts) = λ i. observed_at_lem t i ∷ each ts i
 
 computed : map (observed_at 2097152) readings ≡ map (λ t. t.expected) readings
-unfolding observed_at transacted_at turn_at look_by readings seen_of look_at finishing array_at stored blank transact_served transact_refused transact_refusal is_part part_of fm25q16 fm_commands fm_heard_asleep fm_heard_busy fm_sec0 fm_sec1 fm_area fm_lo fm_hi takes leaves row_in row_of regs_of status_of kept_of low_byte high_byte word_formed awake_formed well_formed is_protected first_protected some_protected cell programmed erased locked fm_first fm_second fm_status_written address_of unheard_asleep unheard_busy verdict_of from_place turn_of room finished event_refusal event_of finish_of of_write of_known if◌then◌otherwise◌ tabulate_from tabulate patched first_in
+unfolding observed_at transacted_at turn_at look_by readings seen_of look_at finishing array_at stored blank transact_served transact_refused transact_refusal is_part part_of fm25q16 fm_commands fm_heard_asleep fm_heard_busy fm_sec0 fm_sec1 fm_area fm_lo fm_hi takes leaves row_in row_of regs_of status_of kept_of low_byte high_byte word_formed awake_formed well_formed is_protected first_protected some_protected cell programmed erased locked fm_first fm_second fm_status_written address_of unheard_asleep unheard_busy verdict_of from_place turn_of room finished event_refusal event_of finish_of of_write of_known if◌then◌otherwise◌ tabulate_from tabulate patched first_in answered
 computed = refl
 
 pub bench : map observed readings ≡ map (λ t. t.expected) readings

@@ -1,13 +1,14 @@
 -- The entry `count`: the meter by itself, brought up to date by what a transaction answered. Document 01: above the core "the
 -- meter is also offered as a record brought up to date where it lies".
-use Rattle.std.specs.Prelude.{ℕ, not, ◌&&◌}
+use Rattle.std.specs.Prelude.{ℕ, not, ◌&&◌, Result, Ok, Err}
 use Rattle.lists.specs.Choice.{if◌then◌otherwise◌, ◌=?◌, ◌≤?◌}
 use Rattle.rules.specs.declared.Meter.{Meter}
-use Rattle.rules.specs.declared.Metered.{Metered}
+use Rattle.rules.specs.declared.Refusal.{Refusal}
 use Rattle.rules.specs.declared.Verdict.TheVariants.{CarriedOut}
 use Rattle.rules.specs.Kinds.{of_known}
 use Rattle.rules.specs.Part.{Part, command_of}
 use Rattle.rules.specs.Parts.{is_part, part_of}
+use Rattle.rules.specs.Refusals.{number_of}
 use Rattle.rules.specs.Counts.{ignored_counted, meter_after, room}
 
 -- the meter after a transaction of first byte op that answered with a number: 0 is carried out, 10 to 16 ignored, and any
@@ -18,10 +19,20 @@ meter_by_answer p meter number op =
     if (10 ≤? number) && (number ≤? 16) then ignored_counted meter otherwise
     meter
 
+-- a number, and the meter then
+pub record Metered : Type 0 where
+  pub number : ℕ
+  pub meter : Meter
+
 abbrev pub metered : (number : ℕ) (meter : Meter) → Metered
 metered number meter = record { number = number; meter = meter }
 
--- refused with 1 or 7, and then the meter stays
+-- the paper's number and values of an answer: 0 and the new meter, or a refusal, and then the meter stays
+abbrev pub count_told : (meter : Meter) → Result Meter Refusal → Metered
+count_told meter (Ok m) = metered 0 m
+count_told meter (Err z) = metered (number_of z) meter
+
+-- refused with 1 or 7
 unfoldable pub count_of : (part : ℕ) (meter : Meter) (number op : ℕ) → Metered
 count_of part meter number op =
     if not (is_part part) then metered 1 meter otherwise

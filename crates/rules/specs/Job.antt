@@ -1,5 +1,5 @@
 -- A job's bytes, step by step, and what the steps mean. Document 01, "Jobs and tapes".
-use Rattle.std.specs.Prelude.{ℕ, zero, suc, ◌+◌, ◌*◌, ◌/◌, Bool, false, not, ◌&&◌, List, [], ◌∷◌, length, get_or, take, drop}
+use Rattle.std.specs.Prelude.{ℕ, zero, suc, ◌+◌, ◌*◌, ◌/◌, Bool, false, not, ◌&&◌, List, [], ◌∷◌, length, get_or, take, drop, Option, Some, None}
 use Rattle.std.specs.Int.Bits.{bit_and}
 use Rattle.lists.specs.Choice.{if◌then◌otherwise◌, ◌=?◌, ◌≤?◌}
 use Rattle.lists.specs.Places.{patched, every_in}
@@ -9,8 +9,6 @@ use Rattle.rules.specs.declared.Regs.{Regs}
 use Rattle.rules.specs.declared.Span.{Span}
 use Rattle.rules.specs.declared.Step.{Step}
 use Rattle.rules.specs.declared.Step.TheVariants.{EraseAt, Lay, Guard}
-use Rattle.rules.specs.declared.Decoded.{Decoded}
-use Rattle.rules.specs.declared.Decoded.TheVariants.{Good, Bad}
 use Rattle.rules.specs.Part.{Part}
 use Rattle.rules.specs.Status.{with_wel, with_setting, with_srp0, with_srp1, with_qe}
 use Rattle.rules.specs.Cells.{erased}
@@ -43,44 +41,44 @@ unit_by n =
     Chip
 
 -- "1 erase: .. bytes 4 to 7 address; the rest 0"
-unfoldable pub decoded_erase : List ℕ → ℕ → Decoded
+unfoldable pub decoded_erase : List ℕ → ℕ → Option Step
 decoded_erase job a =
     if (get_or job (a + 1) 0 ≤? 3) && zeros job (a + 8) 8
-    then Good (EraseAt (unit_by (get_or job (a + 1) 0)) (number4 job (a + 4)))
-    otherwise Bad
+    then Some (EraseAt (unit_by (get_or job (a + 1) 0)) (number4 job (a + 4)))
+    otherwise None
 
 -- "2 lay: byte 1 is 0; address in 4 to 7, length in 8 to 11, payload offset in 12 to 15"
-unfoldable pub decoded_lay : List ℕ → ℕ → Decoded
+unfoldable pub decoded_lay : List ℕ → ℕ → Option Step
 decoded_lay job a =
     if get_or job (a + 1) 0 =? 0
-    then Good (Lay (record { address = number4 job (a + 4); length = number4 job (a + 8); offset = number4 job (a + 12) }))
-    otherwise Bad
+    then Some (Lay (record { address = number4 job (a + 4); length = number4 job (a + 8); offset = number4 job (a + 12) }))
+    otherwise None
 
 -- "3 guard: byte 1 is a setting 0 to 31; the rest 0"
-unfoldable pub decoded_guard : List ℕ → ℕ → Decoded
+unfoldable pub decoded_guard : List ℕ → ℕ → Option Step
 decoded_guard job a =
-    if (get_or job (a + 1) 0 ≤? guard_limit) && zeros job (a + 4) 12 then Good (Guard (get_or job (a + 1) 0)) otherwise Bad
+    if (get_or job (a + 1) 0 ≤? guard_limit) && zeros job (a + 4) 12 then Some (Guard (get_or job (a + 1) 0)) otherwise None
 
 -- "byte 0 is the kind, bytes 2 and 3 are 0"; Bad is refusal 22
-unfoldable pub decoded_at : List ℕ → ℕ → Decoded
+unfoldable pub decoded_at : List ℕ → ℕ → Option Step
 decoded_at job a =
-    if not (zeros job (a + 2) 2) then Bad otherwise
+    if not (zeros job (a + 2) 2) then None otherwise
     if get_or job a 0 =? 1 then decoded_erase job a otherwise
     if get_or job a 0 =? 2 then decoded_lay job a otherwise
     if get_or job a 0 =? 3 then decoded_guard job a otherwise
-    Bad
+    None
 
 -- step i of a job
-abbrev pub step_at : List ℕ → ℕ → Decoded
+abbrev pub step_at : List ℕ → ℕ → Option Step
 step_at job i = decoded_at job (step_length * i)
 
 -- how many steps a job has
 abbrev pub step_count : List ℕ → ℕ
 step_count job = length job / step_length
 
-abbrev pub with_step : Decoded → List Step → List Step
-with_step (Good s) ss = s ∷ ss
-with_step Bad ss = ss
+abbrev pub with_step : Option Step → List Step → List Step
+with_step (Some s) ss = s ∷ ss
+with_step None ss = ss
 
 -- n steps from step i on
 unfoldable pub steps_from : List ℕ → ℕ → ℕ → List Step

@@ -1,20 +1,16 @@
 -- When a job is refused. Document 01, refusals 20 to 25, "each step in order".
-use Rattle.std.specs.Prelude.{ℕ, zero, suc, ◌+◌, ◌%◌, Bool, false, not, ◌||◌, List, length}
+use Rattle.std.specs.Prelude.{ℕ, zero, suc, ◌+◌, ◌%◌, Bool, false, not, ◌||◌, List, length, Option, Some, None}
 use Rattle.lists.specs.Choice.{if◌then◌otherwise◌, ◌=?◌, ◌<?◌, ◌≤?◌}
-use Rattle.lists.specs.declared.Found.{Found}
-use Rattle.lists.specs.declared.Found.TheVariants.{At, Nothing}
 use Rattle.rules.specs.declared.EraseUnit.{EraseUnit}
 use Rattle.rules.specs.declared.EraseUnit.TheVariants.{Sector, Block32, Block64, Chip}
 use Rattle.rules.specs.declared.Step.{Step}
 use Rattle.rules.specs.declared.Step.TheVariants.{EraseAt, Lay, Guard}
-use Rattle.rules.specs.declared.Decoded.{Decoded}
-use Rattle.rules.specs.declared.Decoded.TheVariants.{Good, Bad}
-use Rattle.rules.specs.declared.Refusal.{Refusal}
+use Rattle.rules.specs.declared.Refusal.TheVariants.{UnknownPart, UnfitJob, StartSetting, StepUnsaid, StepOutside, StepBeyond, StepProtected}
 use Rattle.rules.specs.Part.{Part}
 use Rattle.rules.specs.Parts.{is_part, part_of}
 use Rattle.rules.specs.Units.{unit_start, unit_length}
 use Rattle.rules.specs.Protection.{first_protected}
-use Rattle.rules.specs.Refusals.{refusal, refusal_at, ◌or_else◌}
+use Rattle.rules.specs.Refusals.{Checked, passes, refused, ◌or_else◌}
 use Rattle.rules.specs.Job.{step_length, step_at, step_count, setting_meant}
 
 -- "up to 64 records", "payload over 65,536 bytes", "length 0 or over 4,096"
@@ -65,42 +61,42 @@ step_reach p (Lay s) = s.length
 step_reach p (Guard g) = 0
 
 -- the first of them that is protected at setting s
-abbrev pub first_shielded : Part → ℕ → Step → Found
+abbrev pub first_shielded : Part → ℕ → Step → Option ℕ
 first_shielded p s w = first_protected p s (step_start w) (step_reach p w)
 
 -- 25: "a byte of the unit or span protected at that step"
-abbrev pub shielded : ℕ → Found → Refusal
-shielded i (At x) = refusal_at 25 i
-shielded i Nothing = refusal 0
+abbrev pub shielded : ℕ → Option ℕ → Checked
+shielded i (Some x) = refused (StepProtected i)
+shielded i None = passes
 
 -- 23 to 25 for step i, at setting s
-unfoldable pub step_refusal : (p : Part) (s payload_length i : ℕ) → Step → Refusal
+unfoldable pub step_refusal : (p : Part) (s payload_length i : ℕ) → Step → Checked
 step_refusal p s payload_length i w =
-    if outside p w then refusal_at 23 i otherwise
-    if beyond payload_length w then refusal_at 24 i otherwise
+    if outside p w then refused (StepOutside i) otherwise
+    if beyond payload_length w then refused (StepBeyond i) otherwise
     shielded i (first_shielded p s w)
 
 -- 22 to 25
-abbrev pub decoded_refusal : (p : Part) (s payload_length i : ℕ) → Decoded → Refusal
-decoded_refusal p s payload_length i (Good w) = step_refusal p s payload_length i w
-decoded_refusal p s payload_length i Bad = refusal_at 22 i
+abbrev pub decoded_refusal : (p : Part) (s payload_length i : ℕ) → Option Step → Checked
+decoded_refusal p s payload_length i (Some w) = step_refusal p s payload_length i w
+decoded_refusal p s payload_length i None = refused (StepUnsaid i)
 
 -- the setting after a step, for the next step's 25
-abbrev pub setting_after : ℕ → Decoded → ℕ
-setting_after s (Good w) = setting_meant s w
-setting_after s Bad = s
+abbrev pub setting_after : ℕ → Option Step → ℕ
+setting_after s (Some w) = setting_meant s w
+setting_after s None = s
 
 -- n steps from step i on, at setting s
-unfoldable pub steps_refusal : (p : Part) (s payload_length : ℕ) (job : List ℕ) (i n : ℕ) → Refusal
-steps_refusal p s payload_length job i zero = refusal 0
+unfoldable pub steps_refusal : (p : Part) (s payload_length : ℕ) (job : List ℕ) (i n : ℕ) → Checked
+steps_refusal p s payload_length job i zero = passes
 steps_refusal p s payload_length job i (suc n) =
     decoded_refusal p s payload_length i (step_at job i) or_else
     steps_refusal p (setting_after s (step_at job i)) payload_length job (suc i) n
 
 -- "checks 1, 20, 21, then each step in order for 22 to 25"
-unfoldable pub job_refusal : (part setting : ℕ) (job : List ℕ) (payload_length : ℕ) → Refusal
+unfoldable pub job_refusal : (part setting : ℕ) (job : List ℕ) (payload_length : ℕ) → Checked
 job_refusal part setting job payload_length =
-    if not (is_part part) then refusal 1 otherwise
-    if unfit job payload_length then refusal 20 otherwise
-    if (part_of part).setting_limit <? setting then refusal 21 otherwise
+    if not (is_part part) then refused UnknownPart otherwise
+    if unfit job payload_length then refused UnfitJob otherwise
+    if (part_of part).setting_limit <? setting then refused StartSetting otherwise
     steps_refusal (part_of part) setting payload_length job 0 (step_count job)

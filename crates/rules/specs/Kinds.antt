@@ -1,12 +1,10 @@
 -- The kinds of command under document 01's codes, and which of them write.
-use Rattle.std.specs.Prelude.{ℕ}
+use Rattle.std.specs.Prelude.{ℕ, Option, Some, None}
 use Rattle.rules.specs.declared.EraseUnit.TheVariants.{Sector, Block32, Block64, Chip}
 use Rattle.rules.specs.declared.Write.{Write}
 use Rattle.rules.specs.declared.Write.TheVariants.{Program, Erase, WriteStatus}
 use Rattle.rules.specs.declared.Kind.{Kind}
 use Rattle.rules.specs.declared.Kind.TheVariants.{WriteEnable, WriteDisable, ReadStatusLow, ReadStatusHigh, Read, FastRead, Sleep, Wake, ReadMakerDevice, ReadJedec, Writes}
-use Rattle.rules.specs.declared.Command.{Command}
-use Rattle.rules.specs.declared.Command.TheVariants.{Known, Unknown}
 
 -- the code of a kind in document 01's table; C7 of the two that erase all
 abbrev pub code_of : Kind → ℕ
@@ -42,10 +40,10 @@ of_write ReadJedec d f = d
 of_write (Writes w) d f = f w
 
 -- f of the kind that a command is known as, and d where it is unknown
-unfoldable pub of_known {ℓ} : {A : Type ℓ} → Command → A → (Kind → A) → A
-of_known Unknown d f = d
-of_known (Known k) d f = f k
+unfoldable pub of_known {ℓ} : {A : Type ℓ} → Option Kind → A → (Kind → A) → A
+of_known None d f = d
+of_known (Some k) d f = f k
 
 -- f of what a command writes, and d where it writes nothing or is unknown
-abbrev pub of_written {ℓ} : {A : Type ℓ} → Command → A → (Write → A) → A
+abbrev pub of_written {ℓ} : {A : Type ℓ} → Option Kind → A → (Write → A) → A
 of_written c d f = of_known c d (λ k. of_write k d f)

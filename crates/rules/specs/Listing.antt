@@ -1,13 +1,10 @@
 -- The lines of the listing program. Document 01, "The listing program".
-use Rattle.std.specs.Prelude.{ℕ, zero, suc, ◌+◌, ◌/◌, ◌%◌, not, ◌||◌, List, [], ◌∷◌, ◌++◌, length, get_or}
+use Rattle.std.specs.Prelude.{ℕ, zero, suc, ◌+◌, ◌/◌, ◌%◌, not, ◌||◌, List, [], ◌∷◌, ◌++◌, length, get_or, Option, Some, None, Ok, Err}
 use Rattle.lists.specs.Choice.{if◌then◌otherwise◌, ◌=?◌, ◌<?◌}
-use Rattle.lists.specs.declared.Found.{Found}
-use Rattle.lists.specs.declared.Found.TheVariants.{At, Nothing}
-use Rattle.rules.specs.declared.AtPlace.{AtPlace}
-use Rattle.rules.specs.declared.AtPlace.TheVariants.{Transaction, Finish, PowerCycle, End, Fault}
+use Rattle.rules.specs.declared.Record.TheVariants.{Transaction, Finish, PowerCycle}
 use Rattle.rules.specs.declared.Sent.{Sent}
 use Rattle.rules.specs.Tape.{whole, first_bad, records}
-use Rattle.rules.specs.Reading.{read_at}
+use Rattle.rules.specs.Reading.{AtPlace, read_at}
 
 -- "a tape of up to 65,472 bytes (more is 30)"
 abbrev pub listing_limit : ℕ
@@ -47,11 +44,11 @@ transaction_text t s =
 
 -- "T .., F, or P"
 abbrev pub record_text : List ℕ → AtPlace → List ℕ
-record_text t (Transaction s) = transaction_text t s
-record_text t Finish = 0x46 ∷ []
-record_text t PowerCycle = 0x50 ∷ []
-record_text t End = []
-record_text t (Fault n) = []
+record_text t (Ok (Some (Transaction s))) = transaction_text t s
+record_text t (Ok (Some Finish)) = 0x46 ∷ []
+record_text t (Ok (Some PowerCycle)) = 0x50 ∷ []
+record_text t (Ok None) = []
+record_text t (Err z) = []
 
 -- "four-digit index, then .."; "each line ends with one line feed"
 unfoldable pub record_line : List ℕ → ℕ → List ℕ
@@ -68,9 +65,9 @@ refused_line number index =
     0x72 ∷ 0x65 ∷ 0x66 ∷ 0x75 ∷ 0x73 ∷ 0x65 ∷ 0x64 ∷ space
     ∷ digit (number / 10) ∷ digit number ∷ space ∷ digits4 index ++ line_feed ∷ []
 
-abbrev pub listed : List ℕ → Found → List ℕ
-listed t (At i) = refused_line 31 i
-listed t Nothing = lines_from t 0 (records t)
+abbrev pub listed : List ℕ → Option ℕ → List ℕ
+listed t (Some i) = refused_line 31 i
+listed t None = lines_from t 0 (records t)
 
 unfoldable pub listing_of : (tape : List ℕ) → List ℕ
 listing_of tape = if (listing_limit <? length tape) || not (whole tape) then refused_line 30 0 otherwise listed tape (first_bad tape)

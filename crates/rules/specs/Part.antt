@@ -1,5 +1,5 @@
 -- A chip is a value: what the rules ask of it, and nothing else, stands in its description.
-use Rattle.std.specs.Prelude.{ℕ, Bool, true, false, ◌&&◌, ◌||◌, List, [], ◌∷◌}
+use Rattle.std.specs.Prelude.{ℕ, Bool, true, false, ◌&&◌, ◌||◌, List, [], ◌∷◌, Option, Some, None}
 use Rattle.lists.specs.Choice.{if◌then◌otherwise◌, ◌=?◌, ◌≤?◌}
 use Rattle.rules.specs.declared.EraseUnit.{EraseUnit}
 use Rattle.rules.specs.declared.Regs.{Regs}
@@ -9,10 +9,6 @@ use Rattle.rules.specs.declared.Bytes.TheVariants.{Exactly, Either, OrMore}
 use Rattle.rules.specs.declared.Leftover.{Leftover}
 use Rattle.rules.specs.declared.Leftover.TheVariants.{NoBits, AnyBits}
 use Rattle.rules.specs.declared.Row.{Row}
-use Rattle.rules.specs.declared.Listed.{Listed}
-use Rattle.rules.specs.declared.Listed.TheVariants.{Line, Unlisted}
-use Rattle.rules.specs.declared.Command.{Command}
-use Rattle.rules.specs.declared.Command.TheVariants.{Known, Unknown}
 
 pub record Part : Type 0 where
   -- how many bytes its array has
@@ -47,12 +43,12 @@ pub record Part : Type 0 where
 abbrev pub row : ℕ → Kind → Bytes → Leftover → Row
 row c k b x = record { code = c; kind = k; bytes = b; leftover = x }
 
-unfoldable pub row_in : List Row → ℕ → Listed
-row_in [] op = Unlisted
-row_in (w ∷ ws) op = if op =? w.code then Line w otherwise row_in ws op
+unfoldable pub row_in : List Row → ℕ → Option Row
+row_in [] op = None
+row_in (w ∷ ws) op = if op =? w.code then Some w otherwise row_in ws op
 
 -- the row of a code
-unfoldable pub row_of : Part → ℕ → Listed
+unfoldable pub row_of : Part → ℕ → Option Row
 row_of p op = row_in p.commands op
 
 unfoldable pub takes : Bytes → ℕ → Bool
@@ -64,16 +60,16 @@ unfoldable pub leaves : Leftover → ℕ → Bool
 leaves NoBits x = x =? 0
 leaves AnyBits x = true
 
-abbrev pub command_by : Listed → Command
-command_by (Line w) = Known w.kind
-command_by Unlisted = Unknown
+abbrev pub command_by : Option Row → Option Kind
+command_by (Some w) = Some w.kind
+command_by None = None
 
-abbrev pub shaped_by : Listed → ℕ → ℕ → Bool
-shaped_by (Line w) n x = takes w.bytes n && leaves w.leftover x
-shaped_by Unlisted n x = false
+abbrev pub shaped_by : Option Row → ℕ → ℕ → Bool
+shaped_by (Some w) n x = takes w.bytes n && leaves w.leftover x
+shaped_by None n x = false
 
 -- what a code says to the chip
-abbrev pub command_of : Part → ℕ → Command
+abbrev pub command_of : Part → ℕ → Option Kind
 command_of p op = command_by (row_of p op)
 
 -- n bytes and x leftover bits are right for the code

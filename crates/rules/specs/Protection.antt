@@ -1,9 +1,7 @@
 -- Which bytes a setting protects. Document 01, "Status bits and protection".
-use Rattle.std.specs.Prelude.{ℕ, Bool, true, false, ◌&&◌}
+use Rattle.std.specs.Prelude.{ℕ, Bool, true, false, ◌&&◌, Option, Some, None}
 use Rattle.lists.specs.Choice.{◌<?◌, ◌≤?◌}
 use Rattle.lists.specs.Places.{first_in}
-use Rattle.lists.specs.declared.Found.{Found}
-use Rattle.lists.specs.declared.Found.TheVariants.{At, Nothing}
 use Rattle.rules.specs.Part.{Part}
 
 -- byte x is protected at setting s
@@ -11,12 +9,12 @@ unfoldable pub is_protected : Part → ℕ → ℕ → Bool
 is_protected p s x = (p.lo s ≤? x) && (x <? p.hi s)
 
 -- the first protected byte among the n from a on
-unfoldable pub first_protected : Part → ℕ → ℕ → ℕ → Found
+unfoldable pub first_protected : Part → ℕ → ℕ → ℕ → Option ℕ
 first_protected p s a n = first_in (is_protected p s) a n
 
-abbrev pub was_found : Found → Bool
-was_found (At x) = true
-was_found Nothing = false
+abbrev pub was_found : Option ℕ → Bool
+was_found (Some x) = true
+was_found None = false
 
 -- some byte of the n from a on is protected
 unfoldable pub some_protected : Part → ℕ → ℕ → ℕ → Bool

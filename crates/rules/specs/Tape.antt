@@ -1,8 +1,7 @@
 -- The format of a tape: its bytes, record by record. Document 01, "Jobs and tapes" and refusals 30 and 31.
-use Rattle.std.specs.Prelude.{ℕ, zero, suc, ◌+◌, ◌-◌, ◌*◌, ◌/◌, ◌%◌, Bool, not, ◌&&◌, ◌||◌, List, [], ◌∷◌, ◌++◌, length, get_or, take, drop, replicate}
+use Rattle.std.specs.Prelude.{ℕ, zero, suc, ◌+◌, ◌-◌, ◌*◌, ◌/◌, ◌%◌, Bool, not, ◌&&◌, ◌||◌, List, [], ◌∷◌, ◌++◌, length, get_or, take, drop, replicate, Option}
 use Rattle.lists.specs.Choice.{if◌then◌otherwise◌, ◌=?◌, ◌≤?◌}
 use Rattle.lists.specs.Places.{every_in, first_in}
-use Rattle.lists.specs.declared.Found.{Found}
 use Rattle.rules.specs.Status.{flag}
 
 -- what a record says
@@ -87,7 +86,7 @@ good_record t p =
     && ((kind_at t p =? 0) || (length_at t p =? 0) && (bits_at t p =? 0))
 
 -- the first bad record
-unfoldable pub first_bad : List ℕ → Found
+unfoldable pub first_bad : List ℕ → Option ℕ
 first_bad t = first_in (λ p. not (good_record t p)) 0 (records t)
 
 -- ---- a record written

@@ -1,6 +1,9 @@
 // The types that document 01 speaks of, by value. What they mean stands in specs/.
 #![tactic(auto)]
 
+mod numbers;
+mod status;
+
 // ---- document 01's sizes and limits: one name a rule, as in specs/
 
 pub const PAGE: usize = 256;
@@ -53,13 +56,6 @@ pub struct Meter {
     pub erases: u32,
     pub register_writes: u32,
     pub ignored: u32,
-}
-
-// What becomes of a meter that is brought up to date by itself: 0, or a refusal's number and the meter as it was.
-#[derive(Clone, Copy)]
-pub struct Metered {
-    pub number: u32,
-    pub meter: Meter,
 }
 
 // The registers taken apart, under document 01's names.
@@ -133,24 +129,16 @@ pub struct Row {
     pub leftover: Leftover,
 }
 
-// What the table has for an operation code.
+// Why a command was ignored, by document 01's number.
 #[derive(Clone, Copy)]
-pub enum Listed {
-    Line(Row),
-    Unlisted,
-}
-
-// What an operation code says to a chip.
-#[derive(Clone, Copy)]
-pub enum Command {
-    Known(Kind),
-    Unknown,
-}
-
-// Why a command was ignored: document 01's number; the verdict gives 10 to 16. One place to grow.
-#[derive(Clone, Copy)]
-pub struct Reason {
-    pub number: u8,
+pub enum Reason {
+    Busy = 10,
+    Asleep = 11,
+    NoCommand = 12,
+    Misshapen = 13,
+    NotEnabled = 14,
+    Locked = 15,
+    Protected = 16,
 }
 
 #[derive(Clone, Copy)]
@@ -161,11 +149,25 @@ pub enum Verdict {
 
 // ---- answers
 
-// Document 01's number of a refusal, and the first bad record's index where it gives one, else 0.
+// Why a caller is turned away, in the order of document 01's table; a step or a record that is at fault has its index.
 #[derive(Clone, Copy)]
-pub struct Refusal {
-    pub number: u8,
-    pub index: usize,
+pub enum Refusal {
+    UnknownPart,
+    ArrayLength,
+    NotWellFormed,
+    LongTransaction,
+    LeftoverBits,
+    ShortOutput,
+    MeterFull,
+    UnfitJob,
+    StartSetting,
+    StepUnsaid(usize),
+    StepOutside(usize),
+    StepBeyond(usize),
+    StepProtected(usize),
+    SmallBuffer,
+    CutTape,
+    BadRecord(usize),
 }
 
 #[derive(Clone, Copy)]
@@ -175,31 +177,10 @@ pub struct Served {
     pub meter: Meter,
 }
 
-// The answer to a transaction.
-#[derive(Clone, Copy)]
-pub enum Transacted {
-    Stepped(Served),
-    Refused(Refusal),
-}
-
-// The answer to a finish event or a power cycle.
-#[derive(Clone, Copy)]
-pub enum Event {
-    Passed(Kept),
-    Refused(Refusal),
-}
-
 #[derive(Clone, Copy)]
 pub struct Played {
     pub regs: Kept,
     pub meter: Meter,
-}
-
-// The answer to a replay.
-#[derive(Clone, Copy)]
-pub enum Replayed {
-    Ended(Played),
-    Refused(Refusal),
 }
 
 // Where a tape holds a transaction's bytes, with its leftover bits and the level of /WP.
@@ -211,14 +192,19 @@ pub struct Sent {
     pub high: bool,
 }
 
-// The answer to a read at a place of a tape.
+// What a record of a tape says.
 #[derive(Clone, Copy)]
-pub enum AtPlace {
+pub enum Record {
     Transaction(Sent),
     Finish,
     PowerCycle,
-    End,
-    Fault(u8),
+}
+
+// Why a tape cannot be read at a place, by document 01's number.
+#[derive(Clone, Copy)]
+pub enum Fault {
+    CutTape = 30,
+    BadRecord = 31,
 }
 
 // ---- jobs
@@ -238,20 +224,6 @@ pub enum Step {
     Guard(u8),
 }
 
-// What 16 bytes of a job say.
-#[derive(Clone, Copy)]
-pub enum Decoded {
-    Good(Step),
-    Bad,
-}
-
-// The answer to a translation: how many bytes of the tape were written.
-#[derive(Clone, Copy)]
-pub enum Translated {
-    Written(usize),
-    Refused(Refusal),
-}
-
 // By how much a job's tape raises the meter, and how many bytes it is long.
 #[derive(Clone, Copy)]
 pub struct Bill {
@@ -259,11 +231,4 @@ pub struct Bill {
     pub erases: u32,
     pub register_writes: u32,
     pub length: usize,
-}
-
-// The answer to a quote.
-#[derive(Clone, Copy)]
-pub enum Quoted {
-    Billed(Bill),
-    Refused(Refusal),
 }

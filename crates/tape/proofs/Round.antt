@@ -1,4 +1,5 @@
 -- What is read back of encoded records is what was written, and no fault is found.
+use Rattle.std.specs.Prelude.{None}
 use mathlib.Core.Path.{◌≡◌, refl, sym, ap, ◌∙◌}
 use mathlib.Core.Bool.{Bool, true, false, not}
 use mathlib.Core.List.{List, [], ◌∷◌, ◌++◌, append_assoc}
@@ -10,7 +11,6 @@ use lib.Seq.{get_or-append-add, get_or-drop, take-append_seam}
 use borrow.Author.Tests.{le-leb, lt-leb, eq-eqb}
 use Rattle.lists.specs.Choice.{if◌then◌otherwise◌}
 use Rattle.lists.specs.Places.{every_in}
-use Rattle.lists.specs.declared.Found.TheVariants.{Nothing}
 use Rattle.lists.proofs.Search.{at_every, none_first}
 use Rattle.rules.specs.Status.{flag}
 use Rattle.rules.specs.Tape.{Rec, transaction, finish, power_cycle, sent_limit, bytes_start, leftover_of, high_of, rec_at, recs_from, records, recs_of, whole, is_zero, good_record, first_bad, encode_rec, encode}
@@ -115,7 +115,7 @@ pub encode-good : (rs : List Rec) → RecsOk rs → (p : ℕ) → p < length rs 
 encode-good rs o p h = let d : 0 + p ≡ p = omega arith in rw d at (goods_back rs o [] 0 refl p h)
 
 -- no record of it is bad
-pub encode_unfaulted : (rs : List Rec) → RecsOk rs → first_bad (encode rs) ≡ Nothing
+pub encode_unfaulted : (rs : List Rec) → RecsOk rs → first_bad (encode rs) ≡ None
 unfolding first_bad
 encode_unfaulted rs o =
     none_first (λ p. not (good_record (encode rs) p)) 0 (records (encode rs))

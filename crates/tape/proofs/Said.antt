@@ -1,4 +1,5 @@
 -- What a read at a place answers, what record stands there, and where the place is after it.
+use Rattle.std.specs.Prelude.{Some, None, Ok, Err}
 use mathlib.Core.Path.{◌≡◌, refl}
 use mathlib.Core.Bool.{Bool, true, false, not}
 use mathlib.Core.List.{List}
@@ -8,16 +9,16 @@ use lib.Dec.{eqb, leb}
 use lib.ListN.{length}
 use borrow.Author.Tests.{leb-false, lt-leb}
 use Rattle.lists.specs.Choice.{if◌then◌otherwise◌}
-use Rattle.rules.specs.declared.AtPlace.{AtPlace}
-use Rattle.rules.specs.declared.AtPlace.TheVariants.{Transaction, Finish, PowerCycle, End, Fault}
+use Rattle.rules.specs.declared.Record.TheVariants.{Transaction, Finish, PowerCycle}
+use Rattle.rules.specs.declared.Fault.TheVariants.{CutTape}
 use Rattle.rules.specs.Tape.{finish, power_cycle, kind_at, rec_at, records, whole, good_record}
-use Rattle.rules.specs.Reading.{sent_at, read_at, next_place, read_told, read_of}
+use Rattle.rules.specs.Reading.{AtPlace, sent_at, read_at, next_place, read_told, read_of, said_at}
 use Rattle.rules.proofs.Apart.{reads_apart}
-use Rattle.tape.specs.Record.{said_at, rec_of}
+use Rattle.tape.specs.Record.{rec_of}
 
 -- a good record is read as what it says
-pub read_said : (t : List ℕ) (p : ℕ) → whole t ≡ true → p < records t → good_record t p ≡ true → read_at t p ≡ said_at t p
-unfolding read_at said_at if◌then◌otherwise◌
+pub read_said : (t : List ℕ) (p : ℕ) → whole t ≡ true → p < records t → good_record t p ≡ true → read_at t p ≡ Ok (Some (said_at t p))
+unfolding read_at if◌then◌otherwise◌
 read_said t p w h g = rw (w, lt-leb (records t) p h, g)
 
 -- what is said is the record
@@ -38,36 +39,24 @@ read_is t p a e = reads_apart p a (read_at t p) e
 
 -- ---- the place after a read
 
--- what a record says moves it by one
-pub said_moves : (t : List ℕ) (p : ℕ) → next_place p (said_at t p) ≡ p + 1
-unfolding said_at if◌then◌otherwise◌
-said_moves t p = go (eqb (kind_at t p) 0) (eqb (kind_at t p) 1)
-  where
-    go : (a b : Bool) → next_place p (if a then Transaction (sent_at t p) otherwise if b then Finish otherwise PowerCycle) ≡ p + 1
-    go true b = refl
-    go false true = refl
-    go false false = refl
-
 -- it is told with the answer
 pub next-told : (p : ℕ) (a : AtPlace) → next_place p a ≡ (read_told p a).next
-next-told p (Transaction s) = refl
-next-told p Finish = refl
-next-told p PowerCycle = refl
-next-told p End = refl
-next-told p (Fault n) = refl
+next-told p (Ok (Some (Transaction s))) = refl
+next-told p (Ok (Some Finish)) = refl
+next-told p (Ok (Some PowerCycle)) = refl
+next-told p (Ok None) = refl
+next-told p (Err z) = refl
 
 next_le : (p : ℕ) (a : AtPlace) → next_place p a ≤ p + 1
-next_le p (Transaction s) = omega arith
-next_le p Finish = omega arith
-next_le p PowerCycle = omega arith
-next_le p End = omega arith
-next_le p (Fault n) = omega arith
+next_le p (Ok (Some r)) = omega arith
+next_le p (Ok None) = omega arith
+next_le p (Err z) = omega arith
 
 next_past : (t : List ℕ) (p : ℕ) → leb (records t) p ≡ true → next_place p (read_at t p) ≡ p
-unfolding read_at said_at if◌then◌otherwise◌
-next_past t p e = go (whole t) (if not (good_record t p) then Fault 31 otherwise said_at t p)
+unfolding read_at if◌then◌otherwise◌
+next_past t p e = go (whole t) _
   where
-    go : (w : Bool) (x : AtPlace) → next_place p (if not w then Fault 30 otherwise if leb (records t) p then End otherwise x) ≡ p
+    go : (w : Bool) (x : AtPlace) → next_place p (if not w then Err CutTape otherwise if leb (records t) p then Ok None otherwise x) ≡ p
     go true x = rw e
     go false x = refl
 

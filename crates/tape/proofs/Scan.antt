@@ -1,4 +1,5 @@
 -- Loops that look at one place after the other.
+use Rattle.std.specs.Prelude.{Some, None}
 use mathlib.Core.Path.{◌≡◌, refl, sym, ap, ◌∙◌}
 use mathlib.Core.Bool.{Bool, true, false, ◌&&◌, and_assoc}
 use Prim.Native.Nat.{ℕ, zero, suc, ◌+◌, ◌-◌, ◌≤◌, ◌<◌}
@@ -10,7 +11,6 @@ use lib.Dec.{eqb}
 use borrow.Author.Tests.{eqb-true, eqb-false, ne_eqb}
 use Rattle.lists.specs.Choice.{◌=?◌}
 use Rattle.lists.specs.Places.{first_in, every_in}
-use Rattle.lists.specs.declared.Found.TheVariants.{At, Nothing}
 use Rattle.lists.proofs.Choice.{if-true, if-false, and_true}
 
 -- ---- a test at every place
@@ -49,7 +49,7 @@ or_zero a b = go (eqb a 0) refl
 
 -- ---- the first place, by a loop that has come to p
 
-pub first_here : (f : ℕ → Bool) (p n : ℕ) → p < n → f p ≡ true → first_in f p (n - p) ≡ At p
+pub first_here : (f : ℕ → Bool) (p n : ℕ) → p < n → f p ≡ true → first_in f p (n - p) ≡ Some p
 unfolding first_in
 first_here f p n h e =
     let d : n - p ≡ suc (n - (p + 1)) = omega arith in
@@ -61,7 +61,7 @@ first_on f p n h e =
     let d : n - p ≡ suc (n - (p + 1)) = omega arith in
     rw (d, add-one p) (sym (if-false _ _ _ e))
 
-pub first_over : (f : ℕ → Bool) (p n : ℕ) → n ≤ p → first_in f p (n - p) ≡ Nothing
+pub first_over : (f : ℕ → Bool) (p n : ℕ) → n ≤ p → first_in f p (n - p) ≡ None
 unfolding first_in
 first_over f p n h =
     let d : n - p ≡ 0 = omega arith in

@@ -1,6 +1,5 @@
 -- What a reader's read answers, and the reader after it.
-use Rattle.rules.specs.declared.AtPlace.{AtPlace}
-use Rattle.rules.specs.Reading.{ReadTold, read_told, read_of}
+use Rattle.rules.specs.Reading.{AtPlace, ReadTold, read_told, read_of}
 use Rattle.tape.specs.declared.Reader.{Reader}
 
 -- an answer, told at the reader's place

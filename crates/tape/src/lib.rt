@@ -5,12 +5,11 @@ ghost use Rattle.std.specs.Prelude.{◌≡◌, ◌++◌, ◌+◌, ◌*◌, ◌�
 ghost use Rattle.lists.specs.Places.{every_in};
 ghost use Rattle.rules.specs.Status.{flag};
 ghost use Rattle.rules.specs.Tape.{Rec, record_length, sent_limit, length_at, whole, records, is_zero, good_record, first_bad, encode_rec};
-ghost use Rattle.rules.specs.Reading.{next_place, read_told, read_of};
+ghost use Rattle.rules.specs.Reading.{next_place, read_told, read_of, said_at};
 ghost use Rattle.tape.specs.Moves.{told, found, after};
-ghost use Rattle.tape.specs.Record.{head_good, said_at};
+ghost use Rattle.tape.specs.Record.{head_good};
 
-use lists::Found;
-use rules::{AtPlace, RECORD_LENGTH, SENT_LIMIT, Sent};
+use rules::{Fault, RECORD_LENGTH, Record, SENT_LIMIT, Sent};
 
 // ---- the whole tape
 
@@ -28,33 +27,32 @@ pub fn record_count(tape: &[u8]) -> usize
 }
 
 // The first record that 31 refuses.
-pub fn first_bad(tape: &[u8]) -> Found
+pub fn first_bad(tape: &[u8]) -> Option<usize>
     ensures { result ≡ first_bad tape.now }
 {
     let n = record_count(tape);
     let mut p = 0;
     while p < n {
         if !is_good(tape, p) {
-            return Found::At(p);
+            return Some(p);
         }
         p += 1;
     }
-    Found::Nothing
+    None
 }
 
 // ---- one record
 
 // Every byte is 0. No early exit, so that the loop becomes vector instructions.
+#[tactic(auto, using(crate::proofs::Scan::or_zero, crate::proofs::Scan::every_more), unfolding(lists::specs::Places::every_in))]
 fn all_zero(s: &[u8]) -> bool
     ensures { result ≡ every_in (is_zero s.now) 0 (length s.now) }
 {
-    let mut acc: u8 = 0;
-    let mut i = 0;
-    while i < s.len() {
-        acc = acc | s[i];
-        i += 1;
+    let mut joined = 0;
+    for &byte in s {
+        joined |= byte;
     }
-    acc == 0
+    joined == 0
 }
 
 fn sent_length(tape: &[u8], place: usize) -> usize
@@ -104,7 +102,7 @@ fn is_good(tape: &[u8], place: usize) -> bool
 }
 
 // What a record says that 30 and 31 let pass.
-pub fn said_at(tape: &[u8], place: usize) -> AtPlace
+pub fn said_at(tape: &[u8], place: usize) -> Record
     requires { place < records tape.now }
     ensures { result ≡ said_at tape.now place }
 {
@@ -112,7 +110,7 @@ pub fn said_at(tape: &[u8], place: usize) -> AtPlace
     let kind = tape[at + 2];
     if kind == 0 {
         let bits = tape[at + 3];
-        return AtPlace::Transaction(Sent {
+        return Record::Transaction(Sent {
             start: at + 4,
             length: sent_length(tape, place),
             leftover: bits % 8,
@@ -120,46 +118,43 @@ pub fn said_at(tape: &[u8], place: usize) -> AtPlace
         });
     }
     if kind == 1 {
-        return AtPlace::Finish;
+        return Record::Finish;
     }
-    AtPlace::PowerCycle
+    Record::PowerCycle
 }
 
 // ---- a read at a place
 
-pub fn read_at(tape: &[u8], place: usize) -> AtPlace
+pub fn read_at(tape: &[u8], place: usize) -> Result<Option<Record>, Fault>
     ensures { read_told place result ≡ read_of tape.now place }
 {
     if !is_whole(tape) {
-        return AtPlace::Fault(30);
+        return Err(Fault::CutTape);
     }
     if record_count(tape) <= place {
-        return AtPlace::End;
+        return Ok(None);
     }
     if !is_good(tape, place) {
-        return AtPlace::Fault(31);
+        return Err(Fault::BadRecord);
     }
-    said_at(tape, place)
+    Ok(Some(said_at(tape, place)))
 }
 
 // The place after an answer. What a read answers meets the bound: `next_fits`.
-fn next_place(place: usize, found: AtPlace) -> usize
+fn next_place(place: usize, found: Result<Option<Record>, Fault>) -> usize
     requires { next_place place found < 2 ^ 64 }
     ensures { result ≡ next_place place found }
 {
     match found {
-        AtPlace::Transaction(_) => place + 1,
-        AtPlace::Finish => place + 1,
-        AtPlace::PowerCycle => place + 1,
-        AtPlace::End => place,
-        AtPlace::Fault(_) => place,
+        Ok(Some(_)) => place + 1,
+        Ok(None) | Err(_) => place,
     }
 }
 
 // What a read finds, and the place after it.
 #[derive(Drop)]
 pub struct Reading {
-    pub found: AtPlace,
+    pub found: Result<Option<Record>, Fault>,
     pub next: usize,
 }
 
@@ -179,7 +174,7 @@ pub fn reading_at(tape: &[u8], place: usize) -> Reading
 fn clear(s: &mut [u8])
     ensures { s.new ≡ replicate (length s.old) 0 }
 {
-    cells::fill(s, 0);
+    s.fill(0);
 }
 
 // The bytes from the start on become the given ones.
@@ -187,8 +182,7 @@ pub fn put(out: &mut [u8], start: usize, bytes: &[u8])
     requires { start + length bytes.now ≤ length out.old }
     ensures { out.new ≡ take start out.old ++ bytes.now ++ drop (start + length bytes.now) out.old }
 {
-    let end = start + bytes.len();
-    cells::copy(&mut out[start..end], bytes);
+    cells::copy(&mut out[start..start + bytes.len()], bytes);
 }
 
 // Byte 3: the leftover bits, plus 8 where /WP is high.
@@ -240,7 +234,7 @@ pub fn place<'a>(reader: Reader<'a>) -> usize
 }
 
 // A record moves the place by one; the end and a fault leave it.
-pub fn read<'s, 'a>(reader: &'s mut Reader<'a>) -> AtPlace
+pub fn read<'s, 'a>(reader: &'s mut Reader<'a>) -> Result<Option<Record>, Fault>
     ensures { (told reader.old result ≡ found reader.old) × (reader.new ≡ after reader.old) }
 {
     let got = reading_at(reader.bytes, reader.place);
@@ -249,7 +243,7 @@ pub fn read<'s, 'a>(reader: &'s mut Reader<'a>) -> AtPlace
 }
 
 // The answer of a reader of the tape that has come to a place. Its callers need know nothing of readers.
-pub fn read_from(tape: &[u8], place: usize) -> AtPlace
+pub fn read_from(tape: &[u8], place: usize) -> Result<Option<Record>, Fault>
     ensures { read_told place result ≡ read_of tape.now place }
 {
     let mut reader = Reader { bytes: tape, place };

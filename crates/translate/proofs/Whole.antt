@@ -1,4 +1,5 @@
 -- The records of a whole job: that each fits its place on the tape, how many, and step after step.
+use Rattle.std.specs.Prelude.{Option, Some, None}
 use mathlib.Core.Path.{◌≡◌, refl, sym, ap, ◌∙◌}
 use mathlib.Core.List.{List, ◌++◌}
 use Prim.Native.Nat.{ℕ, suc, ◌+◌, ◌-◌, ◌*◌, ◌≤◌, ◌<◌}
@@ -7,12 +8,11 @@ use native.Mathlib.Numerals.{add-one}
 use lib.ListN.{length, length-append}
 use Rattle.rules.specs.declared.Step.{Step}
 use Rattle.rules.specs.declared.Step.TheVariants.{EraseAt, Lay, Guard}
-use Rattle.rules.specs.declared.Decoded.{Decoded}
-use Rattle.rules.specs.declared.Decoded.TheVariants.{Good, Bad}
 use Rattle.rules.specs.Part.{Part}
 use Rattle.rules.specs.Parts.{part_of}
 use Rattle.rules.specs.Tape.{Rec, encode}
 use Rattle.rules.specs.Job.{step_at, steps_from, steps_of, with_step, lay_bytes}
+use Rattle.rules.specs.Refusals.{passes}
 use Rattle.rules.specs.JobRefusals.{job_refusal}
 use Rattle.rules.specs.Records.{step_recs, job_recs}
 use Rattle.rules.specs.Bill.{pages_touched, bill_of}
@@ -28,9 +28,9 @@ use Rattle.translate.proofs.Splices.{splice_none, splice_recs}
 
 -- ---- each record fits its place
 
-decoded_ok : (part : ℕ) (payload : List ℕ) (d : Decoded) → RecsOk (decoded_recs (part_of part) payload d)
-decoded_ok part payload (Good w) = step_ok (part_of part) (part_tapeable part) payload w
-decoded_ok part payload Bad = no_recs
+decoded_ok : (part : ℕ) (payload : List ℕ) (d : Option Step) → RecsOk (decoded_recs (part_of part) payload d)
+decoded_ok part payload (Some w) = step_ok (part_of part) (part_tapeable part) payload w
+decoded_ok part payload None = no_recs
 
 -- ---- how many they are
 
@@ -39,12 +39,12 @@ step_count p payload (EraseAt u a) = refl
 step_count p payload (Lay s) = pages_long (pages_touched s.address s.length) s.address (lay_bytes payload s)
 step_count p payload (Guard g) = refl
 
-pub decoded_count_lem : (p : Part) (payload : List ℕ) (d : Decoded) → length (decoded_recs p payload d) ≡ decoded_count d
-decoded_count_lem p payload (Good w) = step_count p payload w
-decoded_count_lem p payload Bad = refl
+pub decoded_count_lem : (p : Part) (payload : List ℕ) (d : Option Step) → length (decoded_recs p payload d) ≡ decoded_count d
+decoded_count_lem p payload (Some w) = step_count p payload w
+decoded_count_lem p payload None = refl
 
 -- the tape of an accepted job is as long as the bill says
-pub tape-long : (part s : ℕ) (job payload : List ℕ) → (job_refusal part s job (length payload)).number ≡ 0 → length (tape_of (part_of part) job payload) ≡ (bill_of (steps_of job)).length
+pub tape-long : (part s : ℕ) (job payload : List ℕ) → job_refusal part s job (length payload) ≡ passes → length (tape_of (part_of part) job payload) ≡ (bill_of (steps_of job)).length
 unfolding tape_of
 tape-long part s job payload ok =
     let e = encode-length (job_recs_ok part s job payload ok) in
@@ -56,10 +56,10 @@ tape-long part s job payload ok =
 abbrev pub rest_recs : ℕ → List ℕ → List ℕ → ℕ → ℕ → List Rec
 rest_recs part payload job i n = job_recs (part_of part) payload (steps_from job i n)
 
-with_recs : (part : ℕ) (payload : List ℕ) (d : Decoded) (ws : List Step) → job_recs (part_of part) payload (with_step d ws) ≡ decoded_recs (part_of part) payload d ++ job_recs (part_of part) payload ws
+with_recs : (part : ℕ) (payload : List ℕ) (d : Option Step) (ws : List Step) → job_recs (part_of part) payload (with_step d ws) ≡ decoded_recs (part_of part) payload d ++ job_recs (part_of part) payload ws
 unfolding job_recs
-with_recs part payload (Good w) ws = refl
-with_recs part payload Bad ws = refl
+with_recs part payload (Some w) ws = refl
+with_recs part payload None ws = refl
 
 pub recs_next : (part : ℕ) (payload job : List ℕ) (i n : ℕ) → i < n
     → rest_recs part payload job i (n - i) ≡ decoded_recs (part_of part) payload (step_at job i) ++ rest_recs part payload job (i + 1) (n - (i + 1))
@@ -101,8 +101,8 @@ steps_over part payload job tape end i n k h inv =
     sym (splice_none tape (264 * k)) ∙ ap (λ (m : ℕ). spliced tape (264 * k) (encode (rest_recs part payload job i m))) (sym e) ∙ inv
 
 -- a lay of lay_limit bytes touches 17 pages at most
-pub count_few : (p : Part) (payload : List ℕ) (d : Decoded) → ((w : Step) → d ≡ Good w → Writable p payload w) → decoded_count d ≤ 51
-count_few p payload Bad h = omega arith
-count_few p payload (Good (EraseAt u a)) h = omega arith
-count_few p payload (Good (Lay s)) h = let q = (h (Lay s) refl).lays s refl in omega arith
-count_few p payload (Good (Guard g)) h = omega arith
+pub count_few : (p : Part) (payload : List ℕ) (d : Option Step) → ((w : Step) → d ≡ Some w → Writable p payload w) → decoded_count d ≤ 51
+count_few p payload None h = omega arith
+count_few p payload (Some (EraseAt u a)) h = omega arith
+count_few p payload (Some (Lay s)) h = let q = (h (Lay s) refl).lays s refl in omega arith
+count_few p payload (Some (Guard g)) h = omega arith

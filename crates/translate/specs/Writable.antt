@@ -1,11 +1,9 @@
 -- What an accepted step has that its records are written by.
-use Rattle.std.specs.Prelude.{List, [], ◌≡◌, ℕ, ◌+◌, ◌*◌, ◌≤◌, ◌<◌, length}
+use Rattle.std.specs.Prelude.{List, [], ◌≡◌, ℕ, ◌+◌, ◌*◌, ◌≤◌, ◌<◌, length, Option, Some, None}
 use Rattle.rules.specs.declared.EraseUnit.{EraseUnit}
 use Rattle.rules.specs.declared.Span.{Span}
 use Rattle.rules.specs.declared.Step.{Step}
 use Rattle.rules.specs.declared.Step.TheVariants.{EraseAt, Lay, Guard}
-use Rattle.rules.specs.declared.Decoded.{Decoded}
-use Rattle.rules.specs.declared.Decoded.TheVariants.{Good, Bad}
 use Rattle.rules.specs.Part.{Part}
 use Rattle.rules.specs.Tape.{Rec}
 use Rattle.rules.specs.Units.{address_end}
@@ -28,14 +26,14 @@ record_count (Lay s) = 3 * pages_touched s.address s.length
 record_count (Guard g) = 3
 
 -- .. and of what a job's bytes say: bytes that say no step become none
-abbrev pub decoded_recs : Part → List ℕ → Decoded → List Rec
-decoded_recs p payload (Good w) = step_recs p payload w
-decoded_recs p payload Bad = []
+abbrev pub decoded_recs : Part → List ℕ → Option Step → List Rec
+decoded_recs p payload (Some w) = step_recs p payload w
+decoded_recs p payload None = []
 
-abbrev pub decoded_count : Decoded → ℕ
-decoded_count (Good w) = record_count w
-decoded_count Bad = 0
+abbrev pub decoded_count : Option Step → ℕ
+decoded_count (Some w) = record_count w
+decoded_count None = 0
 
 pub record WritableJob (p : Part) (payload job : List ℕ) : Type 0 where
   pub few : step_count job ≤ job_limit
-  pub each : (i : ℕ) → i < step_count job → (w : Step) → step_at job i ≡ Good w → Writable p payload w
+  pub each : (i : ℕ) → i < step_count job → (w : Step) → step_at job i ≡ Some w → Writable p payload w

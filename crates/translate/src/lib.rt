@@ -1,7 +1,7 @@
 // A job's steps become records on the lent tape.
 #![tactic(auto)]
 
-ghost use Rattle.std.specs.Prelude.{true, ◌≡◌, ◌∷◌, ◌++◌, ◌+◌, ◌*◌, ◌≤◌, ◌<◌, length};
+ghost use Rattle.std.specs.Prelude.{true, Some, ◌≡◌, ◌∷◌, ◌++◌, ◌+◌, ◌*◌, ◌≤◌, ◌<◌, length};
 ghost use Rattle.rules.specs.Tape.{Rec, encode_rec, encode, record_length, sent_limit};
 ghost use Rattle.rules.specs.Parts.{part_of};
 ghost use Rattle.rules.specs.Job.{lay_bytes, steps_of};
@@ -14,7 +14,7 @@ ghost use Rattle.translate.specs.Spliced.{spliced, Fits};
 ghost use Rattle.lists.specs.Width.{number_end};
 ghost use Rattle.rules.specs.Units.{page, address_end};
 
-use rules::{Decoded, EraseUnit, PAGE, RECORD_LENGTH, STEP_LENGTH, Span, Step, Translated};
+use rules::{EraseUnit, PAGE, RECORD_LENGTH, Refusal, STEP_LENGTH, Span, Step};
 
 // ---- records from record k on
 
@@ -145,11 +145,11 @@ pub fn put_step(part: u32, tape: &mut [u8], k: usize, step: Step, payload: &[u8]
     }
 }
 
-fn put_decoded(part: u32, tape: &mut [u8], k: usize, d: Decoded, payload: &[u8]) -> usize
-    requires { ((w : Step) → d ≡ Decoded.Good w → Writable (part_of part) payload.now w) × Fits tape.old k (decoded_count d) × (k < number_end) }
+fn put_decoded(part: u32, tape: &mut [u8], k: usize, d: Option<Step>, payload: &[u8]) -> usize
+    requires { ((w : Step) → d ≡ Some w → Writable (part_of part) payload.now w) × Fits tape.old k (decoded_count d) × (k < number_end) }
     ensures { (result ≡ k + decoded_count d) × (tape.new ≡ spliced tape.old (record_length * k) (encode (decoded_recs (part_of part) payload.now d))) }
 {
-    let Decoded::Good(w) = d else {
+    let Some(w) = d else {
         return k;
     };
     put_step(part, tape, k, w, payload)
@@ -174,19 +174,20 @@ fn put_steps(part: u32, tape: &mut [u8], job: &[u8], payload: &[u8])
 // ---- the entry: any input
 
 // Every check comes before the first byte is written.
-pub fn translate(part: u32, setting: u32, job: &[u8], payload: &[u8], tape: &mut [u8]) -> Translated
+pub fn translate(
+    part: u32,
+    setting: u32,
+    job: &[u8],
+    payload: &[u8],
+    tape: &mut [u8],
+) -> Result<usize, Refusal>
     ensures { translate_seen (translate_told result) tape.new ≡ translate_of part setting job.now payload.now tape.old }
 {
-    let z = job::refuse::job_refusal(part, setting, job, payload.len());
-    let number = z.number;
-    if number != 0 {
-        return Translated::Refused(z);
-    }
-    let bill = job::bill::bill_of(job);
-    let length = bill.length;
+    job::refuse::job_refusal(part, setting, job, payload.len())?;
+    let length = job::bill::bill_of(job).length;
     if tape.len() < length {
-        return Translated::Refused(refusals::refusal(26));
+        return Err(Refusal::SmallBuffer);
     }
     put_steps(part, tape, job, payload);
-    Translated::Written(length)
+    Ok(length)
 }

@@ -1,4 +1,5 @@
 -- A read's answer and its next place, as numbers, are what the rules tell of it.
+use Rattle.std.specs.Prelude.{Some, None, Ok, Err}
 use mathlib.Core.Path.{◌≡◌, refl, ap}
 use mathlib.Core.Bool.{Bool, true, false, not}
 use mathlib.Core.List.{List}
@@ -6,23 +7,26 @@ use Prim.Native.Nat.{ℕ, ◌≤◌}
 use native.Mathlib.Omega.{arith}
 use lib.Dec.{eqb, leb}
 use Rattle.lists.specs.Choice.{if◌then◌otherwise◌}
-use Rattle.rules.specs.declared.AtPlace.TheVariants.{Transaction, Finish, PowerCycle, End, Fault}
+use Rattle.rules.specs.declared.Record.TheVariants.{Transaction, Finish, PowerCycle}
+use Rattle.rules.specs.declared.Fault.TheVariants.{CutTape, BadRecord}
 use Rattle.rules.specs.declared.Sent.{Sent}
 use Rattle.rules.specs.Tape.{sent_limit, whole, records, kind_at, good_record}
-use Rattle.rules.specs.Reading.{sent_at, read_at, ReadTold, read_told, read_of}
+use Rattle.rules.specs.Reading.{AtPlace, sent_at, said_at, read_at, ReadTold, read_told, read_of}
 use Rattle.tape.proofs.Good.{good_short}
 use Rattle.tape.proofs.Said.{read_is}
 
 -- a transaction that is read is no longer than a record holds
-read_short : (t : List ℕ) (p : ℕ) (s : Sent) → Transaction s ≡ read_at t p → s.length ≤ sent_limit
-unfolding read_at if◌then◌otherwise◌
+read_short : (t : List ℕ) (p : ℕ) (s : Sent) → ◌≡◌ {A = AtPlace} (Ok (Some (Transaction s))) (read_at t p) → s.length ≤ sent_limit
+unfolding read_at said_at if◌then◌otherwise◌
 read_short t p s e = go (whole t) (leb (records t) p) (good_record t p) (eqb (kind_at t p) 0) (eqb (kind_at t p) 1) refl e
   where
     no : {A : Type 0} → ◌≡◌ {A = ℕ} 0 1 → A
     no z = absurd (omega arith)
 
     go : (a b g k₀ k₁ : Bool) → good_record t p ≡ g
-        → Transaction s ≡ (if not a then Fault 30 otherwise if b then End otherwise if not g then Fault 31 otherwise if k₀ then Transaction (sent_at t p) otherwise if k₁ then Finish otherwise PowerCycle)
+        → ◌≡◌ {A = AtPlace} (Ok (Some (Transaction s)))
+        (if not a then Err CutTape otherwise if b then Ok None otherwise if not g then Err BadRecord otherwise
+        Ok (Some (if k₀ then Transaction (sent_at t p) otherwise if k₁ then Finish otherwise PowerCycle)))
         → s.length ≤ sent_limit
     go false b g k₀ k₁ h q = no cc
     go true true g k₀ k₁ h q = no cc
@@ -33,8 +37,8 @@ read_short t p s e = go (whole t) (leb (records t) p) (good_record t p) (eqb (ki
     go true false true false true h q = no cc
     go true false true false false h q = no cc
 
-pub sent_short : (t : List ℕ) (p : ℕ) (s : Sent) → read_told p (Transaction s) ≡ read_of t p → s.length ≤ sent_limit
-sent_short t p s e = read_short t p s (read_is t p (Transaction s) e)
+pub sent_short : (t : List ℕ) (p : ℕ) (s : Sent) → read_told p (Ok (Some (Transaction s))) ≡ read_of t p → s.length ≤ sent_limit
+sent_short t p s e = read_short t p s (read_is t p (Ok (Some (Transaction s))) e)
 
 -- what is told of an answer, with the place after it as the code has it
 abbrev pub with_next : ReadTold → ℕ → ReadTold

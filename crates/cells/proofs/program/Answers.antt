@@ -10,9 +10,7 @@ returns-then-end-le-PAGE c =
     let a = c.args in
     unwrapped a.s.now _ a.off a.bytes.now (omega arith) (omega arith) c.and_in.ensures
 
-pub returns : goal.returns
-returns c =
+pub returns-else-end-le-PAGE : goal.returns-else-end-le-PAGE
+returns-else-end-le-PAGE c =
     let a = c.args in
-    c.and_in-2.ensures
-    ∙ latched a.s.now _ a.off a.bytes.now (λ j. search rules) (omega arith)
-    c.latch-sent.ensures
+    c.and_in-else-end-le-PAGE.ensures ∙ latched a.s.now _ a.off a.bytes.now (λ j. search rules) (omega arith) c.latch.ensures

@@ -1,15 +1,17 @@
+use Rattle.std.specs.Prelude.{Result, Ok, Err}
 use Rattle.rules.specs.Verdict.{verdict_of}
 use Rattle.rules.specs.Transact.{is_high, transact_told, transact_seen}
 use Rattle.laws.proofs.Sound.{size_some}
 use Rattle.laws.proofs.Parts.{part_sound}
-use Rattle.lists.proofs.Lent.{put_front, front_long}
+use Rattle.std.proofs.lemmas.List.{length-take-le}
 use Rattle.rules.specs.declared.Regs.{Regs}
 use Rattle.laws.proofs.Answered.{transact_served_lem, transact_refused_lem, out-after}
 use Rattle.laws.proofs.Accepted.{taken}
 use Rattle.rules.specs.Transaction.{out_at, regs_after}
 use Rattle.rules.specs.Status.{kept_of}
 use Rattle.rules.specs.Parts.{part_of}
-use Rattle.rules.specs.declared.Transacted.TheVariants.{Stepped}
+use Rattle.rules.specs.declared.Served.{Served}
+use Rattle.rules.specs.declared.Refusal.{Refusal}
 use Rattle.lists.specs.Places.{tabulate}
 use lib.ListN.{length, drop}
 use native.Mathlib.Omega.{arith}
@@ -18,46 +20,55 @@ use mathlib.Core.List.{List, ◌++◌}
 use mathlib.Core.Path.{◌≡◌, sym, ap, ◌∙◌}
 use Rattle.chip.proofs.transact.Goals as goal
 
-pub returns-then-number-ne0 : goal.returns-then-number-ne0
-returns-then-number-ne0 c = transact_refused_lem _ _ _ _ _ _ _ _ _ c.transaction-z.ensures c.if-number-ne0.true
+pub returns-in_err-transaction : goal.returns-in_err-transaction
+returns-in_err-transaction c =
+    let s = c.args in
+    let same : c.from_residual.result ≡ Err c.in_err-transaction.field-0.0 = grind arith in
+    ap (λ (t : Result Served Refusal). transact_seen (transact_told s.kept s.meter t) s.array.now s.out.now) same
+    ∙ transact_refused_lem _ _ _ _ _ _ _ _ _ (sym c.in_err-transaction.ensures)
 
 pub turn-t-requires : goal.turn-t-requires
 turn-t-requires c =
-    let h = taken c.args.part (length c.args.array.now) c.args.kept (length c.args.bytes.now) c.args.leftover (length c.args.out.now) c.args.meter (sym (ap (λ z. z.number) c.transaction-z.ensures) ∙ c.if-number-ne0.false) in
+    let h = taken c.args.part (length c.args.array.now) c.args.kept (length c.args.bytes.now) c.args.leftover (length c.args.out.now) c.args.meter (sym c.in_ok-transaction.ensures) in
     (h.begun.long, omega (arith, h.short), h.room)
 
 pub slice_bounds-show-end : goal.slice_bounds-show-end
 slice_bounds-show-end c =
-    let h = taken c.args.part (length c.args.array.now) c.args.kept (length c.args.bytes.now) c.args.leftover (length c.args.out.now) c.args.meter (sym (ap (λ z. z.number) c.transaction-z.ensures) ∙ c.if-number-ne0.false) in
+    let h = taken c.args.part (length c.args.array.now) c.args.kept (length c.args.bytes.now) c.args.leftover (length c.args.out.now) c.args.meter (sym c.in_ok-transaction.ensures) in
     omega (arith, h.fits)
+
+pub slice_bounds-show-end-2 : goal.slice_bounds-show-end-2
+slice_bounds-show-end-2 c =
+    let h = taken c.args.part (length c.args.array.now) c.args.kept (length c.args.bytes.now) c.args.leftover (length c.args.out.now) c.args.meter (sym c.in_ok-transaction.ensures) in
+    omega (arith, length-take-le (length c.args.bytes.now) c.args.out.now h.fits)
 
 pub show-requires : goal.show-requires
 show-requires c =
     let s = c.args in
-    let h = taken c.args.part (length c.args.array.now) c.args.kept (length c.args.bytes.now) c.args.leftover (length c.args.out.now) c.args.meter (sym (ap (λ z. z.number) c.transaction-z.ensures) ∙ c.if-number-ne0.false) in
+    let h = taken c.args.part (length c.args.array.now) c.args.kept (length c.args.bytes.now) c.args.leftover (length c.args.out.now) c.args.meter (sym c.in_ok-transaction.ensures) in
     let p = part_of s.part in
     let l : length c.turn-t.new.array ≡ length s.array.now = c.turn-t.auto.array in
-    (l ∙ h.begun.long, omega (arith, front_long s.out.now (length s.bytes.now) h.fits, h.short, size_some p (part_sound s.part)))
+    (l ∙ h.begun.long, omega (arith, length-take-le (length s.bytes.now) s.out.now h.fits, h.short, size_some p (part_sound s.part)))
 
 pub returns : goal.returns
 returns c =
     let s = c.args in
-    let h = taken c.args.part (length c.args.array.now) c.args.kept (length c.args.bytes.now) c.args.leftover (length c.args.out.now) c.args.meter (sym (ap (λ z. z.number) c.transaction-z.ensures) ∙ c.if-number-ne0.false) in
+    let h = taken c.args.part (length c.args.array.now) c.args.kept (length c.args.bytes.now) c.args.leftover (length c.args.out.now) c.args.meter (sym c.in_ok-transaction.ensures) in
     let p = part_of s.part in
     let n = length s.bytes.now in
     let b = s.bytes.now in
     let t = c.turn-t in
     let v = t.result.verdict in
-    let r = c.regs_of-r in
+    let r = c.from-r in
     let o = s.out.now in
     let shown = c.show.ensures
-    ∙ ap (λ (k : ℕ). tabulate k (out_at p r.result t.new.array b v)) (front_long o n h.fits)
+    ∙ ap (λ (k : ℕ). tabulate k (out_at p r.result t.new.array b v)) (length-take-le n o h.fits)
     ∙ ap (λ (w : List ℕ). tabulate n (out_at p r.result w b v)) t.ensures.3
     ∙ out-after p r.result s.array.now b n v
     ∙ ap (λ (w : Regs). tabulate n (out_at p w s.array.now b v)) r.ensures in
-    let regs = c.kept_of.ensures ∙ ap kept_of (t.ensures.1 ∙ ap (λ (w : Regs). regs_after p w b v) r.ensures) in
-    (λ i. transact_seen (transact_told s.kept s.meter (Stepped (record { verdict = v; regs = regs i; meter = t.ensures.2 i }))) (t.ensures.3 i)
-    ((put_front o c.show.new.out n h.fits ∙ ap (λ (w : List ℕ). w ++ drop n o) shown) i))
+    let regs = c.from.ensures ∙ ap kept_of (t.ensures.1 ∙ ap (λ (w : Regs). regs_after p w b v) r.ensures) in
+    (λ i. transact_seen (transact_told s.kept s.meter (Ok (record { verdict = v; regs = regs i; meter = t.ensures.2 i }))) (t.ensures.3 i)
+    (ap (λ (w : List ℕ). w ++ drop n o) shown i))
     ∙ transact_served_lem s.part s.kept s.meter s.array.now o b s.leftover s.wp v
-    (sym (ap (λ z. z.number) c.transaction-z.ensures) ∙ c.if-number-ne0.false)
+    (sym c.in_ok-transaction.ensures)
     (t.ensures.0 ∙ ap (λ (w : Regs). verdict_of p w b s.leftover (is_high s.wp)) r.ensures)

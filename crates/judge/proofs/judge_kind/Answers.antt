@@ -7,7 +7,7 @@ use Rattle.judge.proofs.judge_kind.Goals as goal
 
 pub returns-then-not-fit : goal.returns-then-not-fit
 unfolding kind_verdict if◌then◌otherwise◌
-returns-then-not-fit c = simp c.if-not-fit.true c.ignore.ensures
+returns-then-not-fit c = simp c.if-not-fit.true
 
 pub returns-in_default : goal.returns-in_default
 unfolding kind_verdict if◌then◌otherwise◌

@@ -8,11 +8,11 @@ use Rattle.judge.proofs.judge_write.Goals as goal
 
 pub returns-then-not-r : goal.returns-then-not-r
 unfolding write_verdict if◌then◌otherwise◌
-returns-then-not-r c = simp c.if-not-r.true c.ignore.ensures
+returns-then-not-r c = simp c.if-not-r.true
 
 pub returns-then-is_locked_out : goal.returns-then-is_locked_out
 unfolding write_verdict if◌then◌otherwise◌
-returns-then-is_locked_out c = simp (c.if-not-r.false, ← c.is_locked_out.ensures, c.if-is_locked_out.true) c.ignore-then-is_locked_out.ensures
+returns-then-is_locked_out c = simp (c.if-not-r.false, ← c.is_locked_out.ensures, c.if-is_locked_out.true)
 
 pub first_protected-found-requires : goal.first_protected-found-requires
 first_protected-found-requires c =

@@ -4,7 +4,7 @@ use Rattle.lines.proofs.fault_of.Goals as goal
 
 pub returns-then-is_long_or_cut : goal.returns-then-is_long_or_cut
 unfolding fault_of if◌then◌otherwise◌
-returns-then-is_long_or_cut c = rw (← c.is_long_or_cut.ensures, c.if-is_long_or_cut.true) c.refusal.ensures
+returns-then-is_long_or_cut c = rw (← c.is_long_or_cut.ensures, c.if-is_long_or_cut.true)
 
 pub returns : goal.returns
 unfolding fault_of if◌then◌otherwise◌

@@ -12,7 +12,7 @@ play_sent-requires c =
     let t = c.args.tape.now in
     let k = c.args.p in
     let h = c.requires.1 in
-    let e = said_sent t k _ (sym c.in-Transaction.is ∙ c.said_at-found.ensures) in
+    let e = said_sent t k _ (sym c.in-Transaction.is ∙ c.said_at.ensures) in
     let n = ap (λ (w : Sent). w.length) e in
     let b = ap (λ (w : Sent). w.start) e in
     let g = good_short t k (h.good k (omega arith)) in
@@ -20,20 +20,12 @@ play_sent-requires c =
     (c.requires.0, omega (arith, n, g), omega (arith, n, b, g, r), c.requires.2)
 
 pub returns-in-Transaction : goal.returns-in-Transaction
-returns-in-Transaction c = c.play_sent.ensures ∙ said_played (part_of c.args.part) c.args.tape.now c.args.p _ _ (sym c.in-Transaction.is ∙ c.said_at-found.ensures)
+returns-in-Transaction c = c.play_sent.ensures ∙ said_played (part_of c.args.part) c.args.tape.now c.args.p _ _ (sym c.in-Transaction.is ∙ c.said_at.ensures)
 
 pub returns-in-Finish : goal.returns-in-Finish
 unfolding play_rec
-returns-in-Finish c = on-array _ c.ended.ensures ∙ said_played (part_of c.args.part) c.args.tape.now c.args.p _ _ (sym c.in-Finish.is ∙ c.said_at-found.ensures)
+returns-in-Finish c = on-array _ c.ended.ensures ∙ said_played (part_of c.args.part) c.args.tape.now c.args.p _ _ (sym c.in-Finish.is ∙ c.said_at.ensures)
 
 pub returns-in-PowerCycle : goal.returns-in-PowerCycle
 unfolding play_rec
-returns-in-PowerCycle c = on-array _ c.cycled.ensures ∙ said_played (part_of c.args.part) c.args.tape.now c.args.p _ _ (sym c.in-PowerCycle.is ∙ c.said_at-found.ensures)
-
-pub returns-in-End : goal.returns-in-End
-unfolding play_rec
-returns-in-End c = on-array _ c.cycled-in-End.ensures ∙ said_played (part_of c.args.part) c.args.tape.now c.args.p _ _ (sym c.in-End.is ∙ c.said_at-found.ensures)
-
-pub returns-in-Fault : goal.returns-in-Fault
-unfolding play_rec
-returns-in-Fault c = on-array _ c.cycled-in-Fault.ensures ∙ said_played (part_of c.args.part) c.args.tape.now c.args.p _ _ (sym c.in-Fault.is ∙ c.said_at-found.ensures)
+returns-in-PowerCycle c = on-array _ c.cycled.ensures ∙ said_played (part_of c.args.part) c.args.tape.now c.args.p _ _ (sym c.in-PowerCycle.is ∙ c.said_at.ensures)

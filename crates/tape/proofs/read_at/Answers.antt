@@ -1,3 +1,5 @@
+use Rattle.std.specs.Prelude.{Some, Ok}
+use Rattle.rules.specs.declared.Record.{Record}
 use mathlib.Core.Path.{sym, ap, ◌∙◌}
 use Prim.Native.Nat.{◌≤◌, ◌<◌}
 use native.Mathlib.Omega.{arith}
@@ -30,6 +32,6 @@ pub returns : goal.returns
 unfolding read_of
 returns c =
     ap (read_told c.args.place)
-    (c.said_at.ensures
+    (ap (λ (r : Record). Ok (Some r)) c.said_at.ensures
     ∙ sym (read_said _ _ (sym c.is_whole.ensures ∙ c.if-not-is_whole.false) (omega arith)
     (sym c.is_good.ensures ∙ c.if-not-is_good.false)))

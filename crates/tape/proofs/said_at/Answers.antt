@@ -1,6 +1,6 @@
 use borrow.Author.Tests.{eq-eqb, ne_eqb}
 use Rattle.lists.specs.Choice.{if◌then◌otherwise◌}
-use Rattle.tape.specs.Record.{said_at}
+use Rattle.rules.specs.Reading.{said_at}
 use Rattle.tape.proofs.said_at.Goals as goal
 
 pub returns-then-kind-eq0 : goal.returns-then-kind-eq0

@@ -12,5 +12,5 @@ returns-in_default c =
 
 pub returns : goal.returns
 returns c =
-    let e = c.in-Good.is in
+    let e = c.in-Some.is in
     (rw e c.put_step.ensures.0, rw e c.put_step.ensures.1)

@@ -1,10 +1,11 @@
+use Rattle.std.specs.Prelude.{Option}
+use Rattle.rules.specs.declared.Step.{Step}
 use Rattle.translate.proofs.Whole.{rest_recs, room_next, step_turn, steps_over, count_few}
 use Rattle.translate.specs.Writable.{decoded_recs, decoded_count}
 use Rattle.translate.specs.Spliced.{spliced}
 use Rattle.rules.specs.Job.{step_at}
 use Rattle.rules.specs.Tape.{encode}
 use Rattle.rules.specs.Parts.{part_of}
-use Rattle.rules.specs.declared.Decoded.{Decoded}
 use borrow.Author.Count.{falls}
 use lib.ListN.{length}
 use native.Mathlib.Omega.{arith}
@@ -44,7 +45,7 @@ loop-i-preserved c =
     let n = length a.job.now / 16 in
     let t = c.step_at-d.ensures in
     let q = c.put_decoded-k.ensures in
-    let u : c.put_decoded-k.result ≡ l.k + decoded_count (step_at a.job.now l.i) = q.0 ∙ ap (λ (d : Decoded). l.k + decoded_count d) t in
+    let u : c.put_decoded-k.result ≡ l.k + decoded_count (step_at a.job.now l.i) = q.0 ∙ ap (λ (d : Option Step). l.k + decoded_count d) t in
     let h = c.loop-i-test.true in
     let r = room_next a.part a.payload.now a.job.now l.i n l.k a.tape.now h l.invariant.3 in
     let can = c.requires.0.each l.i h in
@@ -55,7 +56,7 @@ loop-i-preserved c =
       subst (λ (k : ℕ). 264 * (k + length (rest_recs a.part a.payload.now a.job.now (l.i + 1) (n - (l.i + 1)))) ≤ length a.tape.now) (sym u) r,
       subst (λ (k : ℕ). spliced c.put_decoded-k.new.tape (264 * k) (encode (rest_recs a.part a.payload.now a.job.now (l.i + 1) (n - (l.i + 1)))) ≡ spliced a.tape.now 0 (encode (rest_recs a.part a.payload.now a.job.now 0 n))) (sym u)
           (step_turn a.part a.payload.now a.job.now l.tape _ _ l.i n l.k h (omega (arith, r, l.invariant.2))
-          (q.1 ∙ ap (λ (d : Decoded). spliced l.tape (264 * l.k) (encode (decoded_recs (part_of a.part) a.payload.now d))) t) l.invariant.4),
+          (q.1 ∙ ap (λ (d : Option Step). spliced l.tape (264 * l.k) (encode (decoded_recs (part_of a.part) a.payload.now d))) t) l.invariant.4),
     )
 
 pub returns : goal.returns

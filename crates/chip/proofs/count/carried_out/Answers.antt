@@ -7,4 +7,4 @@ returns-in_default c = rw c.in_default.is
 
 pub returns : goal.returns
 unfolding of_known
-returns c = rw c.in-Known.is c.meter_step.ensures
+returns c = rw c.in-Some.is c.meter_step.ensures
