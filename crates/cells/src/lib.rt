@@ -8,7 +8,6 @@ ghost use Rattle.rules.specs.Units.{page, page_start};
 ghost use Rattle.rules.specs.Cells.{ff, programmed};
 ghost use Rattle.cells.specs.InTurn.{in_turn};
 ghost use Rattle.cells.specs.Page.{last_sent, programmed_at};
-ghost use Rattle.lists.specs.Width.{number_end};
 
 use rules::PAGE;
 
@@ -43,7 +42,7 @@ pub fn erase(array: &mut [u8], start: usize, count: usize)
 // The last byte sent to each place of the page, FF where none is: FF leaves what it is ANDed into.
 #[tactic(auto, using(lists::proofs::Tabulate::by_places, crate::proofs::Sent::latch_more, crate::proofs::Sent::latch_all))]
 fn latch(off: usize, bytes: &[u8]) -> [u8; 256]
-    requires { (off < page) × (length bytes.now < number_end) }
+    requires { off < page }
     ensures { result ≡ tabulate page (λ j. last_sent off bytes.now j 255) }
 {
     let mut buf = [255u8; 256];
@@ -65,7 +64,7 @@ fn and_in(s: &mut [u8], bytes: &[u8])
 
 // The bytes go to the page s from the offset on, and wrap inside it.
 fn program(s: &mut [u8], off: usize, bytes: &[u8])
-    requires { (length s.old ≡ page) × (off < page) × (length bytes.now < number_end) }
+    requires { (length s.old ≡ page) × (off < page) }
     ensures { s.new ≡ tabulate page (programmed_at s.old off bytes.now) }
 {
     let end = off + bytes.len();
@@ -79,7 +78,7 @@ fn program(s: &mut [u8], off: usize, bytes: &[u8])
 
 // The bytes go to the page of address a, from its offset on.
 pub fn program_at(array: &mut [u8], address: usize, bytes: &[u8])
-    requires { (page_start address + page ≤ length array.old) × (length bytes.now < number_end) }
+    requires { page_start address + page ≤ length array.old }
     ensures { array.new ≡ programmed array.old address bytes.now }
 {
     let base = address / PAGE * PAGE;

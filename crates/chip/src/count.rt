@@ -11,24 +11,25 @@ ghost use Rattle.laws.specs.Room.{Room};
 use rules::{Kind, Meter, Refusal};
 
 // What a number says as a first byte: over 255 it is none, and no command.
+#[tactic(auto, using(laws::proofs::Sound::no_byte, laws::proofs::Parts::part_sound))]
 fn command_said(part: u32, op: u32) -> Option<Kind>
     ensures { result ≡ command_of (part_of part) op }
 {
-    if 255 < op {
-        return None;
-    }
-    parts::command_of(part, op as u8)
+    u8::try_from(op)
+        .ok()
+        .and_then(|code| parts::command_of(part, code))
 }
 
 // The meter after a command that was carried out.
+#[tactic(auto, unfolding(rules::specs::Kinds::of_known))]
 fn carried_out(m: Meter, c: Option<Kind>) -> Meter
     requires { Room m 1 }
     ensures { result ≡ of_known c m (λ k. meter_after m (CarriedOut k)) }
 {
-    let Some(k) = c else {
-        return m;
-    };
-    meter::meter_step(m, k)
+    match c {
+        Some(k) => meter::meter_step(m, k),
+        None => m,
+    }
 }
 
 // The meter after an answer.
@@ -37,19 +38,16 @@ fn answered(part: u32, m: Meter, number: u32, op: u32) -> Meter
     requires { Room m 1 }
     ensures { result ≡ meter_by_answer (part_of part) m number op }
 {
-    if number == 0 {
-        return carried_out(m, command_said(part, op));
+    match number {
+        0 => carried_out(m, command_said(part, op)),
+        10..=16 => meter::one_ignored(m),
+        _ => m,
     }
-    if number < 10 {
-        return m;
-    }
-    if 16 < number {
-        return m;
-    }
-    meter::one_ignored(m)
 }
 
 // By value: the entry that is lent the meter stores what this gives.
+// Kept: an answer's number and a first byte of any size, as C hands them in.
+#[tactic(auto, using(lists::proofs::Choice::choices, laws::proofs::Accepted::has_room), unfolding(rules::specs::CountEntry::count_of))]
 pub fn count(part: u32, meter: Meter, number: u32, op: u32) -> Result<Meter, Refusal>
     ensures { count_told meter result ≡ count_of part meter number op }
 {

@@ -1,12 +1,13 @@
 // The chip: a transaction, a finish event, a power cycle; and the meter by itself.
 #![tactic(auto)]
 
+use judge::Transaction;
 use rules::{Kept, Kind, Meter, Refusal, Regs, Served, Verdict, Write};
 
 pub mod count;
 mod refuse;
 
-ghost use Rattle.std.specs.Prelude.{◌≡◌, ◌<◌, length, drop};
+ghost use Rattle.std.specs.Prelude.{◌≡◌, length, drop};
 ghost use Rattle.rules.specs.Kinds.{of_write};
 ghost use Rattle.rules.specs.Parts.{part_of};
 ghost use Rattle.rules.specs.Writes.{regs_written, array_written};
@@ -16,7 +17,16 @@ ghost use Rattle.rules.specs.Counts.{meter_after};
 ghost use Rattle.rules.specs.Transact.{transact_told, transact_seen, transact_of};
 ghost use Rattle.rules.specs.EventEntries.{event_told, finish_of, power_cycle_of};
 ghost use Rattle.laws.specs.Room.{Room};
-ghost use Rattle.lists.specs.Width.{number_end};
+
+// A chip with its meter, that is lent its array.
+#[derive(Drop)]
+pub struct Chip<'a> {
+    pub part: u32,
+    pub regs: Regs,
+    pub meter: Meter,
+    pub array: &'a mut [u8],
+    pub ghost sized: { length array.now ≡ (part_of part).size },
+}
 
 // ---- what a write does
 
@@ -24,23 +34,17 @@ ghost use Rattle.lists.specs.Width.{number_end};
 fn data_of(b: &[u8]) -> &[u8]
     ensures { result.now ≡ drop 4 b.now }
 {
-    let end = b.len();
-    if end < 4 {
-        return &b[end..];
-    }
-    &b[4..]
+    b.get(4..).unwrap_or(&[])
 }
 
 // The array after a write.
 fn write(part: u32, array: &mut [u8], b: &[u8], w: Write)
-    requires { (length array.old ≡ (part_of part).size) × (length b.now < number_end) }
+    requires { length array.old ≡ (part_of part).size }
     ensures { array.new ≡ array_written (part_of part) array.old b.now (address_of (part_of part) b.now) w }
 {
     let a = judge::address_of(part, b);
     match w {
-        Write::Program => {
-            cells::program_at(array, a, data_of(b));
-        }
+        Write::Program => cells::program_at(array, a, data_of(b)),
         Write::Erase(u) => {
             let start = judge::unit_start(u, a);
             let n = judge::unit_length(part, u);
@@ -55,8 +59,7 @@ fn regs_written(part: u32, r: Regs, b: &[u8], w: Write) -> Regs
     ensures { result ≡ regs_written (part_of part) r b.now w }
 {
     match w {
-        Write::Program => regs::with_busy(r, true),
-        Write::Erase(_) => regs::with_busy(r, true),
+        Write::Program | Write::Erase(_) => regs::with_busy(r, true),
         Write::WriteStatus => regs::with_busy(parts::status_written(part, r, b), true),
     }
 }
@@ -70,70 +73,53 @@ fn regs_done(part: u32, r: Regs, b: &[u8], k: Kind) -> Regs
     match k {
         Kind::WriteEnable => regs::with_wel(r, true),
         Kind::WriteDisable => regs::with_wel(r, false),
-        Kind::ReadStatusLow => r,
-        Kind::ReadStatusHigh => r,
-        Kind::Read => r,
-        Kind::FastRead => r,
         Kind::Sleep => regs::with_awake(r, false),
         Kind::Wake => regs::with_awake(r, true),
-        Kind::ReadMakerDevice => r,
-        Kind::ReadJedec => r,
+        Kind::ReadStatusLow
+        | Kind::ReadStatusHigh
+        | Kind::Read
+        | Kind::FastRead
+        | Kind::ReadMakerDevice
+        | Kind::ReadJedec => r,
         Kind::Writes(w) => regs_written(part, r, b, w),
     }
 }
 
 // The array after a command.
+#[tactic(auto, unfolding(rules::specs::Kinds::of_write))]
 fn array_done(part: u32, array: &mut [u8], b: &[u8], k: Kind)
-    requires { (length array.old ≡ (part_of part).size) × (length b.now < number_end) }
+    requires { length array.old ≡ (part_of part).size }
     ensures { array.new ≡ of_write k array.old (array_written (part_of part) array.old b.now (address_of (part_of part) b.now)) }
 {
-    let Kind::Writes(w) = k else {
-        return;
-    };
-    write(part, array, b, w);
-}
-
-#[derive(Clone, Copy)]
-pub struct Turned {
-    pub verdict: Verdict,
-    pub regs: Regs,
-    pub meter: Meter,
+    if let Kind::Writes(w) = k {
+        write(part, array, b, w);
+    }
 }
 
 // One transaction without its output: the verdict, then the kind that was carried out, or the number of what was not.
-pub fn turn(
-    part: u32,
-    regs: Regs,
-    meter: Meter,
-    array: &mut [u8],
-    bytes: &[u8],
-    leftover: u32,
-    high: bool,
-) -> Turned
-    requires { (length array.old ≡ (part_of part).size) × (length bytes.now < number_end) × Room meter 1 }
-    ensures { (result.verdict ≡ verdict_of (part_of part) regs bytes.now leftover high) × (result.regs ≡ regs_after (part_of part) regs bytes.now result.verdict) × (result.meter ≡ meter_after meter result.verdict) × (array.new ≡ array_after (part_of part) array.old bytes.now result.verdict) }
+pub fn turn(chip: &mut Chip<'_>, sent: Transaction<'_>) -> Verdict
+    requires { Room chip.old.meter 1 }
+    ensures same { (chip.new.part ≡ chip.old.part) × (chip.new.array.ghost_name ≡ chip.old.array.ghost_name) }
+    ensures verdict { result ≡ verdict_of (part_of chip.old.part) chip.old.regs sent.entry.bytes.now sent.entry.leftover sent.entry.high }
+    ensures regs { chip.new.regs ≡ regs_after (part_of chip.old.part) chip.old.regs sent.entry.bytes.now result }
+    ensures meter { chip.new.meter ≡ meter_after chip.old.meter result }
+    ensures array { chip.new.array.now ≡ array_after (part_of chip.old.part) chip.old.array.now sent.entry.bytes.now result }
 {
-    let v = judge::verdict(part, regs, bytes, leftover, high);
-    let Verdict::CarriedOut(kind) = v else {
-        return Turned {
-            verdict: v,
-            regs: regs,
-            meter: meter::one_ignored(meter),
-        };
+    let verdict = judge::verdict(chip.part, chip.regs, sent);
+    let Verdict::CarriedOut(kind) = verdict else {
+        chip.meter = meter::one_ignored(chip.meter);
+        return verdict;
     };
-    let next = regs_done(part, regs, bytes, kind);
-    let counted = meter::meter_step(meter, kind);
-    array_done(part, array, bytes, kind);
-    Turned {
-        verdict: v,
-        regs: next,
-        meter: counted,
-    }
+    chip.regs = regs_done(chip.part, chip.regs, sent.bytes, kind);
+    chip.meter = meter::meter_step(chip.meter, kind);
+    array_done(chip.part, chip.array, sent.bytes, kind);
+    verdict
 }
 
 // ---- the entries: any input
 
 // One transaction.
+// Kept: /WP as a number, and the parameters side by side, as C hands them in; any are served or refused.
 pub fn transact(
     part: u32,
     kept: Kept,
@@ -155,16 +141,31 @@ pub fn transact(
         out.len(),
         meter,
     )?;
-    let r = Regs::from(kept);
-    let t = turn(part, r, meter, array, bytes, leftover, wp != 0);
+    let regs = Regs::from(kept);
+    let sent = Transaction {
+        bytes,
+        leftover,
+        high: wp != 0,
+    };
+    let mut chip = Chip {
+        part,
+        regs,
+        meter,
+        array,
+    };
+    let verdict = turn(&mut chip, sent);
     let n = bytes.len();
-    output::show(&mut out[..n], part, r, array, bytes, t.verdict);
+    // The array back first: of what a chip holds, only a variable can be lent on.
+    let array = chip.array;
+    output::show(&mut out[..n], part, regs, array, bytes, verdict);
     Ok(Served {
-        verdict: t.verdict,
-        regs: Kept::from(t.regs),
-        meter: t.meter,
+        verdict,
+        regs: Kept::from(chip.regs),
+        meter: chip.meter,
     })
 }
+
+// Kept: two events of two lines each; one function over what an event makes of the registers would be longer, with its contract.
 
 // A finish event.
 pub fn finish(part: u32, kept: Kept) -> Result<Kept, Refusal>

@@ -5,7 +5,7 @@ ghost use Rattle.rules.specs.Refusals.{transact_refusal, event_refusal};
 use rules::{Kept, LEFTOVER_LIMIT, Meter, Refusal, TRANSACTION_LIMIT};
 
 // Any input: `count` bytes are clocked in.
-#[tactic(auto, using(lists::proofs::Choice::choices, std::proofs::lemmas::Bool::Decides::nat_tests), unfolding(rules::specs::Refusals::transact_refusal))]
+#[tactic(auto, using(laws::proofs::Accepted::opened_goes, lists::proofs::Choice::choices, std::proofs::lemmas::Bool::Decides::nat_tests), unfolding(rules::specs::Refusals::transact_refusal))]
 pub fn transaction(
     part: u32,
     array_length: usize,
@@ -17,15 +17,7 @@ pub fn transaction(
 ) -> Result<(), Refusal>
     ensures { result ≡ transact_refusal part array_length kept count leftover out_length meter }
 {
-    if !parts::is_part(part) {
-        return Err(Refusal::UnknownPart);
-    }
-    if array_length != parts::size_of(part) {
-        return Err(Refusal::ArrayLength);
-    }
-    if !parts::well_formed(part, kept) {
-        return Err(Refusal::NotWellFormed);
-    }
+    refusals::opened(part, array_length, kept)?;
     if TRANSACTION_LIMIT < count {
         return Err(Refusal::LongTransaction);
     }

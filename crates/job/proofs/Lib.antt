@@ -1,4 +1,4 @@
 pub mod Bills
-pub mod Every
+pub mod Bytes
 pub mod Passed
 pub mod Steps

@@ -16,13 +16,21 @@ use Rattle.rules.specs.Part.{Part}
 use Rattle.rules.specs.Parts.{part_of}
 use Rattle.rules.specs.Job.{step_length, step_at, step_count}
 use Rattle.rules.specs.Refusals.{passes}
-use Rattle.rules.specs.JobRefusals.{job_limit, payload_limit, unfit, steps_refusal, job_refusal}
-use Rattle.laws.proofs.Inside.{lay_inside}
+use Rattle.rules.specs.JobRefusals.{outside, step_start, step_reach, job_limit, payload_limit, unfit, steps_refusal, job_refusal}
+use Rattle.laws.proofs.Inside.{lay_inside, step_end}
 use Rattle.laws.proofs.JobPassed.{StepOk, StepPassed, steps_next, job_passed}
 use Rattle.laws.proofs.Sound.{Sound, size_small}
 use Rattle.laws.proofs.Parts.{part_sound}
 use Rattle.job.specs.Carried.{setting_at}
 use Rattle.job.specs.Counted.{Billable, Counted}
+
+-- ---- sums that do not wrap
+
+pub size_few : (part : ℕ) → (part_of part).size ≤ 16777216
+size_few part = size_small (part_of part) (part_sound part)
+
+pub touched_few : (part : ℕ) (w : Step) → outside (part_of part) w ≡ false → step_start w + step_reach (part_of part) w ≤ 16777216
+touched_few part w e = omega (arith, step_end (part_of part) (part_sound part) w e, size_few part)
 
 -- ---- 20
 

@@ -1,7 +1,7 @@
 // Whether a command is carried out: document 01's tests, in its order.
 #![tactic(auto)]
 
-ghost use Rattle.std.specs.Prelude.{◌≡◌, ◌+◌, ◌<◌};
+ghost use Rattle.std.specs.Prelude.{◌≡◌, ◌+◌, ◌<◌, length};
 ghost use Rattle.rules.specs.Parts.{part_of};
 ghost use Rattle.rules.specs.Units.{unit_start, unit_length};
 ghost use Rattle.rules.specs.Protection.{first_protected};
@@ -12,7 +12,16 @@ ghost use Rattle.lists.specs.Width.{number_end};
 
 use rules::{BLOCK_32, BLOCK_64, EraseUnit, Kind, PAGE, Reason, Regs, SECTOR, Verdict, Write};
 
+// The bytes that are clocked in, the bits left over, and whether /WP is high.
+#[derive(Clone, Copy)]
+pub struct Transaction<'a> {
+    pub bytes: &'a [u8],
+    pub leftover: u32,
+    pub high: bool,
+}
+
 // ---- where a write reaches
+// Kept: start and length are two definitions of the rules, and job asks for either alone; a pair would be made to be taken apart.
 
 pub fn unit_start(unit: EraseUnit, address: usize) -> usize
     ensures { result ≡ unit_start unit address }
@@ -57,67 +66,45 @@ fn reach_length(part: u32, w: Write) -> usize
 }
 
 // The first protected byte among the n from a on, from the two ends of the area.
+#[tactic(auto, using(lists::proofs::Choice::choices, laws::proofs::Protection::first_protected_lem))]
 pub fn first_protected(part: u32, setting: u8, start: usize, count: usize) -> Option<usize>
     requires { start + count < number_end }
     ensures { result ≡ first_protected (part_of part) setting start count }
 {
-    let lo = parts::area_lo(part, setting);
-    let hi = parts::area_hi(part, setting);
-    let mut from = start;
-    if start < lo {
-        from = lo;
-    }
-    let mut end = start + count;
-    if hi < end {
-        end = hi;
-    }
-    if from < end {
-        return Some(from);
-    }
-    None
+    let from = start.max(parts::area_lo(part, setting));
+    let end = (start + count).min(parts::area_hi(part, setting));
+    (from < end).then_some(from)
 }
 
 // ---- the tests, each by itself
 
+#[tactic(auto, using(lists::proofs::Choice::choices), unfolding(rules::specs::Verdict::unheard_asleep))]
+// Kept two, here and with registers and /WP side by side: each test is a verdict's, and a definition of the rules.
 fn is_unheard_asleep(part: u32, r: Regs, op: u8) -> bool
     ensures { result ≡ unheard_asleep (part_of part) r op }
 {
-    if r.awake {
-        return false;
-    }
-    !parts::heard_asleep(part, op)
+    !r.awake && !parts::heard_asleep(part, op)
 }
 
+#[tactic(auto, using(lists::proofs::Choice::choices), unfolding(rules::specs::Verdict::unheard_busy))]
 fn is_unheard_busy(part: u32, r: Regs, op: u8) -> bool
     ensures { result ≡ unheard_busy (part_of part) r op }
 {
-    if r.busy {
-        return !parts::heard_busy(part, op);
-    }
-    false
+    r.busy && !parts::heard_busy(part, op)
 }
 
+#[tactic(auto, using(lists::proofs::Choice::choices), unfolding(rules::specs::Writes::locked))]
 fn is_locked(r: Regs, high: bool) -> bool
     ensures { result ≡ locked r high }
 {
-    if r.srp1 {
-        return true;
-    }
-    if r.srp0 {
-        if high {
-            return false;
-        }
-        return !r.qe;
-    }
-    false
+    r.srp1 || r.srp0 && !high && !r.qe
 }
 
 fn is_locked_out(w: Write, r: Regs, high: bool) -> bool
     ensures { result ≡ locked_out w r high }
 {
     match w {
-        Write::Program => false,
-        Write::Erase(_) => false,
+        Write::Program | Write::Erase(_) => false,
         Write::WriteStatus => is_locked(r, high),
     }
 }
@@ -134,26 +121,26 @@ fn by_protection(k: Kind, found: Option<usize>) -> Verdict
     }
 }
 
-// 14, 15, 16, or carried out: a write of kind k at address a.
-fn judge_write(part: u32, r: Regs, high: bool, a: usize, k: Kind, w: Write) -> Verdict
-    requires { a < (part_of part).size }
-    ensures { result ≡ write_verdict (part_of part) r high a k w }
+// 14, 15, 16, or carried out: a write of kind k.
+#[tactic(auto, using(lists::proofs::Choice::choices, laws::proofs::Sound::reach_end, laws::proofs::Sound::size_small, laws::proofs::Parts::part_sound), unfolding(laws::specs::Judged::write_verdict))]
+fn judge_write(part: u32, r: Regs, sent: Transaction<'_>, k: Kind, w: Write) -> Verdict
+    ensures { result ≡ write_verdict (part_of part) r sent.entry.high (address_of (part_of part) sent.entry.bytes.now) k w }
 {
     if !r.wel {
         return Verdict::Ignored(Reason::NotEnabled);
     }
-    if is_locked_out(w, r, high) {
+    if is_locked_out(w, r, sent.high) {
         return Verdict::Ignored(Reason::Locked);
     }
-    let s = r.setting;
-    let found = first_protected(part, s, reach_start(w, a), reach_length(part, w));
+    let a = address_of(part, sent.bytes);
+    let found = first_protected(part, r.setting, reach_start(w, a), reach_length(part, w));
     by_protection(k, found)
 }
 
 // 13, or what the kind asks: its bytes and bits fit, or they do not.
-fn judge_kind(part: u32, r: Regs, fit: bool, high: bool, a: usize, k: Kind) -> Verdict
-    requires { a < (part_of part).size }
-    ensures { result ≡ kind_verdict (part_of part) r fit high a k }
+#[tactic(auto, using(lists::proofs::Choice::choices), unfolding(laws::specs::Judged::kind_verdict, rules::specs::Kinds::of_write))]
+fn judge_kind(part: u32, r: Regs, sent: Transaction<'_>, fit: bool, k: Kind) -> Verdict
+    ensures { result ≡ kind_verdict (part_of part) r fit sent.entry.high (address_of (part_of part) sent.entry.bytes.now) k }
 {
     if !fit {
         return Verdict::Ignored(Reason::Misshapen);
@@ -161,25 +148,15 @@ fn judge_kind(part: u32, r: Regs, fit: bool, high: bool, a: usize, k: Kind) -> V
     let Kind::Writes(w) = k else {
         return Verdict::CarriedOut(k);
     };
-    judge_write(part, r, high, a, k, w)
+    judge_write(part, r, sent, k, w)
 }
 
 // 12, 11, 10, 12, or what a known command asks.
-#[tactic(auto, using(lists::proofs::Choice::choices, std::proofs::lemmas::Bool::Decides::nat_tests), unfolding(laws::specs::Judged::judge_of))]
-fn judge(
-    part: u32,
-    r: Regs,
-    n: usize,
-    fit: bool,
-    high: bool,
-    op: u8,
-    a: usize,
-    c: Option<Kind>,
-) -> Verdict
-    requires { a < (part_of part).size }
-    ensures { result ≡ judge_of (part_of part) r n fit high op a c }
+#[tactic(auto, using(lists::proofs::Choice::choices, std::proofs::lemmas::Bool::Decides::nat_tests), unfolding(laws::specs::Judged::judge_of, rules::specs::Kinds::of_known))]
+fn judge(part: u32, r: Regs, sent: Transaction<'_>, op: u8, fit: bool, c: Option<Kind>) -> Verdict
+    ensures { result ≡ judge_of (part_of part) r (length sent.entry.bytes.now) fit sent.entry.high op (address_of (part_of part) sent.entry.bytes.now) c }
 {
-    if n == 0 {
+    if sent.bytes.is_empty() {
         return Verdict::Ignored(Reason::NoCommand);
     }
     if is_unheard_asleep(part, r, op) {
@@ -191,7 +168,7 @@ fn judge(
     let Some(k) = c else {
         return Verdict::Ignored(Reason::NoCommand);
     };
-    judge_kind(part, r, fit, high, a, k)
+    judge_kind(part, r, sent, fit, k)
 }
 
 // ---- the verdict on the bytes of a transaction
@@ -199,20 +176,18 @@ fn judge(
 pub fn address_of(part: u32, bytes: &[u8]) -> usize
     ensures { (result ≡ address_of (part_of part) bytes.now) × (result < (part_of part).size) }
 {
-    let size = parts::size_of(part);
-    let b1 = lists::byte_at(bytes, 1) as usize;
-    let b2 = lists::byte_at(bytes, 2) as usize;
-    let b3 = lists::byte_at(bytes, 3) as usize;
-    (b1 * 65536 + b2 * 256 + b3) % size
+    let high = lists::byte_at(bytes, 1);
+    let middle = lists::byte_at(bytes, 2);
+    let low = lists::byte_at(bytes, 3);
+    u32::from_be_bytes([0, high, middle, low]) as usize % parts::size_of(part)
 }
 
-pub fn verdict(part: u32, regs: Regs, bytes: &[u8], leftover: u32, high: bool) -> Verdict
-    ensures { result ≡ verdict_of (part_of part) regs bytes.now leftover high }
+#[tactic(auto, using(laws::proofs::Judged::verdict_judged))]
+pub fn verdict(part: u32, regs: Regs, sent: Transaction<'_>) -> Verdict
+    ensures { result ≡ verdict_of (part_of part) regs sent.entry.bytes.now sent.entry.leftover sent.entry.high }
 {
-    let op = lists::byte_at(bytes, 0);
+    let op = lists::byte_at(sent.bytes, 0);
     let row = parts::row_of(part, op);
-    let fit = parts::rows::shaped_by(row, bytes.len(), leftover);
-    let c = parts::rows::command_by(row);
-    let a = address_of(part, bytes);
-    judge(part, regs, bytes.len(), fit, high, op, a, c)
+    let fit = parts::rows::shaped_by(row, sent.bytes.len(), sent.leftover);
+    judge(part, regs, sent, op, fit, parts::rows::command_by(row))
 }

@@ -16,6 +16,7 @@ use Rattle.rules.specs.Counts.{count_limit, room}
 use Rattle.rules.specs.declared.Refusal.TheVariants.{UnknownPart, ArrayLength, NotWellFormed, LongTransaction, LeftoverBits, ShortOutput, MeterFull}
 use Rattle.rules.specs.Refusals.{Checked, passes, refused, ◌or_else◌, transaction_limit, transact_refusal}
 use Rattle.laws.specs.Room.{Room}
+use Rattle.laws.specs.Opened.{opened_refusal}
 
 -- what is refused does not pass
 pub refused_not : (z : Refusal) → refused z ≡ passes → ⊥
@@ -42,6 +43,9 @@ room-is m n e =
     let b = both_true (p && q) r a.0 in
     let c = both_true p q b.0 in
     record { programs_fit = leb-true _ _ c.0; erases_fit = leb-true _ _ c.1; register_writes_fit = leb-true _ _ b.1; ignored_fit = leb-true _ _ a.1 }
+
+-- for a `#[tactic]`, which names no lemma with a dash
+pub ruleset has_room = (room-is)
 
 pub room_had : (m : Meter) (n : ℕ) → Room m n → room m n ≡ true
 unfolding room
@@ -78,6 +82,23 @@ opened_by part al kept is size ok a b c d e f =
 pub past_three : (part al : ℕ) (kept : Kept) (w : Checked) → Opened part al kept → first_three part al kept w ≡ w
 unfolding if◌then◌otherwise◌
 past_three part al kept w o = rw (o.known, eq-eqb al (part_of part).size o.long, o.formed)
+
+-- .. and as one function asks them: it refuses, or leaves what is asked after them
+stops : (s t u : Bool) (x y v : Refusal) (w : Checked) (z : Refusal) → (if s then refused x otherwise if t then refused y otherwise if u then refused v otherwise passes) ≡ refused z
+    → (if s then refused x otherwise if t then refused y otherwise if u then refused v otherwise w) ≡ refused z
+unfolding if◌then◌otherwise◌
+stops true t u x y v w z e = e
+stops false true u x y v w z e = e
+stops false false true x y v w z e = e
+stops false false false x y v w z e = absurd (refused_not z (sym e))
+
+pub opened_stops : (part al : ℕ) (kept : Kept) (w : Checked) (z : Refusal) → opened_refusal part al kept ≡ refused z → first_three part al kept w ≡ refused z
+unfolding opened_refusal
+opened_stops part al kept w z = stops (not (is_part part)) (not (al =? (part_of part).size)) (not (well_formed (part_of part) kept)) UnknownPart ArrayLength NotWellFormed w z
+
+pub opened_goes : (part al : ℕ) (kept : Kept) (w : Checked) → opened_refusal part al kept ≡ passes → first_three part al kept w ≡ w
+unfolding opened_refusal
+opened_goes part al kept w e = past_three part al kept w (opened part al kept passes e).0
 
 -- ---- every check of a transaction
 

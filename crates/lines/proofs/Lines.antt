@@ -6,23 +6,21 @@ use mathlib.Core.List.{List, [], ◌∷◌, ◌++◌, append_assoc}
 use Prim.Native.Nat.{ℕ, zero, suc, ◌+◌, ◌-◌, ◌*◌, ◌≤◌, ◌<◌}
 use native.Mathlib.Omega.{arith}
 use native.Mathlib.Nat.{add-zero, zero-add, suc-add}
-use lib.Dec.{eqb}
 use lib.ListN.{length, get_or, length-append}
 use borrow.Author.Tests.{le-leb, ltb-false, not-false}
 use Rattle.lists.specs.Choice.{if◌then◌otherwise◌, ◌=?◌, ◌<?◌}
 use Rattle.lists.proofs.Search.{first_none}
 use Rattle.rules.specs.declared.Refusal.{Refusal}
 use Rattle.rules.specs.declared.Refusal.TheVariants.{CutTape}
-use Rattle.rules.specs.declared.Record.{Record}
 use Rattle.rules.specs.declared.Record.TheVariants.{Transaction, Finish, PowerCycle}
-use Rattle.rules.specs.Listing.{listing_limit, digits3, hex2, space, line_feed, record_text, record_line, lines_from, refused_line, listing_of}
+use Rattle.rules.specs.Listing.{listing_limit, digits3, digits4, hex2, space, line_feed, record_text, record_line, lines_from, refused_line, listing_of}
 use Rattle.rules.specs.Refusals.{number_of, index_of, Checked, passes, refused, accepted, answered}
 use Rattle.rules.specs.Replay.{bad_record}
-use Rattle.rules.specs.Tape.{kind_at, records, whole, good_record, first_bad}
-use Rattle.rules.specs.Reading.{AtPlace, sent_at, read_at, next_place, read_of, said_at}
+use Rattle.rules.specs.Tape.{records, whole, good_record, first_bad}
+use Rattle.rules.specs.Reading.{AtPlace, read_at, next_place, read_of, said_at}
 use Rattle.tape.proofs.Said.{read_said, next-told}
 use Rattle.lines.specs.Fault.{fault_of}
-use Rattle.lines.specs.Line.{record_width, indexed, line_of}
+use Rattle.lines.specs.Line.{line_of}
 use Rattle.lines.proofs.Told.{listing_is}
 
 -- ---- a tape without a fault
@@ -59,16 +57,10 @@ next-there t p c h = sym (next-told p (read_at t p)) ∙ ap (next_place p) (read
 
 -- and its line is the record's
 pub line_there : (t : List ℕ) (p : ℕ) → Listable t → p < records t → line_of t p (read_at t p) ≡ record_line t p
-unfolding record_line said_at if◌then◌otherwise◌
-line_there t p c h = rw (read_there t p c h) (go (eqb (kind_at t p) 0) (eqb (kind_at t p) 1))
-  where
-    said : Bool → Bool → Record
-    said a b = if a then Transaction (sent_at t p) otherwise if b then Finish otherwise PowerCycle
-
-    go : (a b : Bool) → line_of t p (Ok (Some (said a b))) ≡ indexed p (record_text t (Ok (Some (said a b))) ++ line_feed ∷ [])
-    go true b = refl
-    go false true = refl
-    go false false = refl
+unfolding record_line
+line_there t p c h =
+    let e = read_there t p c h in
+    ap (line_of t p) e ∙ sym (ap (λ (a : AtPlace). digits4 p ++ space ∷ record_text t a ++ line_feed ∷ []) e)
 
 -- ---- after the last
 
@@ -90,7 +82,7 @@ text_length t (Ok (Some PowerCycle)) = omega arith
 text_length t (Ok None) = omega arith
 text_length t (Err z) = omega arith
 
-pub line_length : (t : List ℕ) (p : ℕ) → (0 < length (record_line t p)) × (length (record_line t p) ≤ record_width)
+pub line_length : (t : List ℕ) (p : ℕ) → (0 < length (record_line t p)) × (length (record_line t p) ≤ 14)
 unfolding record_line
 line_length t p =
     let h = text_length t (read_at t p) in
@@ -109,7 +101,7 @@ lines_append t p (suc m) n =
     ∙ ap (λ (l : List ℕ). record_line t p ++ l) (ih ∙ ap (λ (k : ℕ). lines_from t (suc p) m ++ lines_from t k n) e)
     ∙ sym (append_assoc (record_line t p) (lines_from t (suc p) m) _)
 
-lines_length : (t : List ℕ) (p n : ℕ) → length (lines_from t p n) ≤ record_width * n
+lines_length : (t : List ℕ) (p n : ℕ) → length (lines_from t p n) ≤ 14 * n
 unfolding lines_from
 lines_length t p zero = omega arith
 lines_length t p (suc n) =

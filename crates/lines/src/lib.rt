@@ -1,26 +1,51 @@
 // The lines of the listing program, and what it refuses. The program only writes them out.
-#![tactic(auto)]
+#![tactic(auto, using(lists::proofs::Choice::choices, std::proofs::lemmas::Bool::Decides::nat_tests))]
 
-ghost use Rattle.std.specs.Prelude.{◌≡◌, [], ◌∷◌, ◌++◌, ◌+◌, ◌≤◌, ◌<◌, length, not, ◌||◌};
-ghost use Rattle.lists.specs.Choice.{◌<?◌};
-ghost use Rattle.rules.specs.Listing.{listing_limit, digit, digits3, digits4, hex_digit, space, line_feed, transaction_text, refused_line};
+ghost use Rattle.std.specs.Prelude.{◌≡◌, [], ◌∷◌, ◌++◌, ◌+◌, ◌≤◌, ◌<◌, length, get_or, not, ◌||◌, MatchOption};
+ghost use Rattle.arrayvec.specs.ArrayVec.{array_vec_len};
+ghost use Rattle.lists.specs.Choice.{if◌then◌otherwise◌, ◌=?◌, ◌<?◌};
+ghost use Rattle.rules.specs.Listing.{listing_limit, digit, digits3, digits4, hex2, hex_digit, transaction_text, refused_line};
 ghost use Rattle.rules.specs.Tape.{whole};
 ghost use Rattle.lines.specs.Fault.{fault_of};
-ghost use Rattle.lines.specs.Line.{record_width, refused_width, indexed, line_of, Laid};
+ghost use Rattle.lines.specs.Line.{line_of};
 
+use arrayvec::ArrayVec;
 use rules::{Fault, LISTING_LIMIT, Record, Refusal, Sent};
 
 // Room for any record's line, and for a fault's.
-pub const RECORD_WIDTH: usize = 14;
+pub const LINE_WIDTH: usize = 16;
 
-pub const REFUSED_WIDTH: usize = 16;
+pub type Line = ArrayVec<u8, LINE_WIDTH>;
+
+// The line has room for the text.
+fn append(line: &mut Line, text: &[u8])
+    requires { array_vec_len line.old + length text.now ≤ LINE_WIDTH }
+    ensures { line.new.items ≡ line.old.items ++ text.now }
+{
+    let _ = line.try_extend_from_slice(text);
+}
 
 // ---- digits, as bytes of text
+// Kept digit by digit: `write!` into an ArrayString was tried, and no contract tells that it succeeds; and `{:04}` writes all digits of a larger number.
 
 fn digit(n: usize) -> u8
     ensures { result ≡ digit n }
 {
-    (48 + n % 10) as u8
+    b'0' + (n % 10) as u8
+}
+
+// The last three digits.
+fn digits3(n: usize) -> [u8; 3]
+    ensures { result ≡ digits3 n }
+{
+    [digit(n / 100), digit(n / 10), digit(n)]
+}
+
+// And the last four.
+fn digits4(n: usize) -> [u8; 4]
+    ensures { result ≡ digits4 n }
+{
+    [digit(n / 1000), digit(n / 100), digit(n / 10), digit(n)]
 }
 
 // Upper case.
@@ -28,118 +53,69 @@ fn hex_digit(n: u8) -> u8
     requires { n < 16 }
     ensures { result ≡ hex_digit n }
 {
-    if n < 10 { 48 + n } else { 55 + n }
+    if n < 10 { b'0' + n } else { b'A' - 10 + n }
 }
 
-// ---- the parts of a line
-
-// The index, and a space.
-fn index_text(p: usize) -> [u8; 5]
-    ensures { result ≡ digits4 p ++ space ∷ [] }
+fn hex2(n: u8) -> [u8; 2]
+    ensures { result ≡ hex2 n }
 {
-    [
-        digit(p / 1000),
-        digit(p / 100),
-        digit(p / 10),
-        digit(p),
-        b' ',
-    ]
+    [hex_digit(n / 16), hex_digit(n % 16)]
 }
 
-// T with its length n; a and b stand for the command.
-fn command_text(a: u8, b: u8, n: usize) -> [u8; 9]
-    ensures { result ≡ 0x54 ∷ space ∷ a ∷ b ∷ space ∷ digits3 n ++ line_feed ∷ [] }
-{
-    [
-        b'T',
-        b' ',
-        a,
-        b,
-        b' ',
-        digit(n / 100),
-        digit(n / 10),
-        digit(n),
-        b'\n',
-    ]
-}
+// ---- lines
 
-// Where there is no whole byte, dashes stand for the command.
-fn transaction_text(tape: &[u8], sent: Sent) -> [u8; 9]
-    ensures { result ≡ transaction_text tape.now sent ++ line_feed ∷ [] }
+// Dashes, where there is no whole byte.
+fn command_text(tape: &[u8], sent: Sent) -> [u8; 2]
+    ensures { result ≡ (if sent.length =? 0 then 0x2D ∷ 0x2D ∷ [] otherwise hex2 (get_or tape.now sent.start 0)) }
 {
-    let n = sent.length;
-    if n == 0 {
-        return command_text(b'-', b'-', n);
+    if sent.length == 0 {
+        *b"--"
+    } else {
+        hex2(lists::byte_at(tape, sent.start))
     }
-    let c = lists::byte_at(tape, sent.start);
-    command_text(hex_digit(c / 16 % 16), hex_digit(c % 16), n)
 }
 
-fn refused_text(number: usize, index: usize) -> [u8; 16]
-    ensures { result ≡ refused_line number index }
+fn append_transaction(line: &mut Line, tape: &[u8], sent: Sent)
+    requires { array_vec_len line.old + 8 ≤ LINE_WIDTH }
+    ensures { line.new.items ≡ line.old.items ++ transaction_text tape.now sent }
 {
-    [
-        b'r',
-        b'e',
-        b'f',
-        b'u',
-        b's',
-        b'e',
-        b'd',
-        b' ',
-        digit(number / 10),
-        digit(number),
-        b' ',
-        digit(index / 1000),
-        digit(index / 100),
-        digit(index / 10),
-        digit(index),
-        b'\n',
-    ]
+    append(line, b"T ");
+    append(line, &command_text(tape, sent));
+    line.push(b' ');
+    append(line, &digits3(sent.length));
 }
 
-// ---- lines, each at the front of the line that is lent; the answer is how long it is
-
-// The index, and then the text.
-fn put_indexed(line: &mut [u8], p: usize, text: &[u8]) -> usize
-    requires { 5 + length text.now ≤ length line.old }
-    ensures { Laid result line.new (indexed p text.now) line.old }
+// The line of what a read of the tape at a place found: the record's index, and what it says. The end and a fault have none.
+pub fn record_line(tape: &[u8], place: usize, found: Result<Option<Record>, Fault>) -> Option<Line>
+    ensures { MatchOption result (line_of tape.now place found ≡ []) (λ line. (line.items ≡ line_of tape.now place found) × (0 < length line.items)) }
 {
-    let head = index_text(p);
-    tape::put(line, 0, &head);
-    tape::put(line, 5, text);
-    5 + text.len()
-}
-
-// The line of what a read of the tape at a place found. The end and a fault have none.
-pub fn record_line(
-    tape: &[u8],
-    place: usize,
-    found: Result<Option<Record>, Fault>,
-    line: &mut [u8],
-) -> usize
-    requires { record_width ≤ length line.old }
-    ensures { Laid result line.new (line_of tape.now place found) line.old }
-{
-    match found {
-        Ok(Some(Record::Transaction(sent))) => {
-            let text = transaction_text(tape, sent);
-            put_indexed(line, place, &text)
-        }
-        Ok(Some(Record::Finish)) => put_indexed(line, place, b"F\n"),
-        Ok(Some(Record::PowerCycle)) => put_indexed(line, place, b"P\n"),
-        Ok(None) | Err(_) => 0,
+    let Ok(Some(said)) = found else {
+        return None;
+    };
+    let mut line = Line::new();
+    append(&mut line, &digits4(place));
+    line.push(b' ');
+    match said {
+        Record::Transaction(sent) => append_transaction(&mut line, tape, sent),
+        Record::Finish => line.push(b'F'),
+        Record::PowerCycle => line.push(b'P'),
     }
+    line.push(b'\n');
+    Some(line)
 }
 
 // The line of a fault.
-pub fn refused_line(number: u8, index: usize, line: &mut [u8]) -> usize
-    requires { refused_width ≤ length line.old }
-    ensures { Laid result line.new (refused_line number index) line.old }
+#[tactic(auto, unfolding(rules::specs::Listing::refused_line))]
+pub fn refused_line(number: u8, index: usize) -> Line
+    ensures { result.items ≡ refused_line number index }
 {
-    let text = refused_text(number as usize, index);
-    tape::put(line, 0, &text);
-    text.len()
+    let number = usize::from(number);
+    let mut line = Line::new();
+    append(&mut line, b"refused ");
+    append(&mut line, &[digit(number / 10), digit(number), b' ']);
+    append(&mut line, &digits4(index));
+    line.push(b'\n');
+    line
 }
 
 // ---- the whole tape, before the first line
@@ -148,13 +124,11 @@ pub fn refused_line(number: u8, index: usize, line: &mut [u8]) -> usize
 fn is_long_or_cut(tape: &[u8]) -> bool
     ensures { result ≡ ((listing_limit <? length tape.now) || not (whole tape.now)) }
 {
-    if LISTING_LIMIT < tape.len() {
-        return true;
-    }
-    !tape::is_whole(tape)
+    LISTING_LIMIT < tape.len() || !tape::is_whole(tape)
 }
 
 // 30, then 31.
+#[tactic(auto, using(lists::proofs::Choice::choices), unfolding(crate::specs::Fault::fault_of))]
 pub fn fault_of(tape: &[u8]) -> Result<(), Refusal>
     ensures { result ≡ fault_of tape.now }
 {

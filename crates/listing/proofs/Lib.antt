@@ -1,4 +1,2 @@
-pub mod Turn
 pub mod Next
 pub mod InOrder
-pub mod Told

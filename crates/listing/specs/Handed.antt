@@ -1,10 +1,10 @@
 -- What the program hands to standard output: the tape's listing, in order and all of it.
-use Rattle.std.specs.Prelude.{◌≡◌, true, false, List, ◌++◌, ℕ, ◌+◌, ◌≤◌, ◌<◌, length}
+use Rattle.std.specs.Prelude.{◌≡◌, List, ◌++◌, ℕ, ◌≤◌, length, Result, IfOk}
 use Rattle.rules.specs.Listing.{lines_from, listing_of}
 use Rattle.rules.specs.Refusals.{passes}
 use Rattle.rules.specs.Tape.{records}
 use Rattle.lines.specs.Fault.{fault_of}
-use Rattle.listing.specs.declared.Handed.{Handed}
+use Rattle.listing.specs.declared.WriteFailed.{WriteFailed}
 
 -- of a text, the bytes that come after the first n
 pub record Next (text : List ℕ) (n : ℕ) (bytes : List ℕ) : Type 0 where
@@ -20,10 +20,5 @@ pub record Come (t : List ℕ) (p n : ℕ) : Type 0 where
   pub long : n ≡ length (lines_from t 0 p)
 
 -- if no write failed, every byte of the listing was handed over
-abbrev pub AllHanded : List ℕ → Handed → Type 0
-AllHanded t h = h.failed ≡ false → h.bytes ≡ length (listing_of t)
-
--- after record p: it was told, and with it the lines take so many bytes; or none was left to tell
-pub record Gone (t : List ℕ) (p : ℕ) (h : Handed) : Type 0 where
-  pub on : h.more ≡ true → (p < records t) × (h.bytes ≡ length (lines_from t 0 (p + 1)))
-  pub over : h.more ≡ false → AllHanded t h
+abbrev pub AllHanded : List ℕ → Result ℕ WriteFailed → Type 0
+AllHanded t r = IfOk r (λ n. n ≡ length (listing_of t))

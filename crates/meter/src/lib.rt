@@ -9,6 +9,8 @@ ghost use Rattle.laws.specs.Room.{Room};
 
 use rules::{COUNT_LIMIT, Kind, Meter, Write};
 
+// Kept: room for n is asked in a `requires`, here and above. A meter is the C interface's struct of any four counts, and n falls from record to record.
+// Kept: three counts and `one_ignored`, each another field.
 fn count(m: Meter, w: Write) -> Meter
     requires { Room m 1 }
     ensures { result ≡ counted m w }

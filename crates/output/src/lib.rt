@@ -9,6 +9,9 @@ ghost use Rattle.rules.specs.Transaction.{from_place, array_from, maker_device, 
 
 use rules::{Kind, Regs, Verdict};
 
+// Kept: the four that follow have one shape; a function over what drives the rest would need a contract over its closure, longer than they are.
+// Kept: the lengths of array and output stand in a `requires`: a type for both would be made for this one call.
+
 // FF, and from place k on the byte v.
 fn byte_from(out: &mut [u8], k: usize, v: u8)
     ensures { out.new ≡ tabulate (length out.old) (from_place k (λ j. v)) }
@@ -78,17 +81,16 @@ fn drive(out: &mut [u8], part: u32, r: Regs, array: &[u8], b: &[u8], k: Kind)
     ensures { out.new ≡ tabulate (length out.old) (driven_at (part_of part) r array.now b.now k) }
 {
     match k {
-        Kind::WriteEnable => cells::fill(out, 255),
-        Kind::WriteDisable => cells::fill(out, 255),
+        Kind::WriteEnable | Kind::WriteDisable | Kind::Sleep | Kind::Writes(_) => cells::fill(
+            out, 255,
+        ),
         Kind::ReadStatusLow => byte_from(out, 1, regs::low_byte(r)),
         Kind::ReadStatusHigh => byte_from(out, 1, regs::high_byte(r)),
         Kind::Read => array_from(out, 4, part, array, judge::address_of(part, b)),
         Kind::FastRead => array_from(out, 5, part, array, judge::address_of(part, b)),
-        Kind::Sleep => cells::fill(out, 255),
         Kind::Wake => byte_from(out, 4, parts::device(part)),
         Kind::ReadMakerDevice => maker_device_from(out, part, b),
         Kind::ReadJedec => jedec_from(out, part),
-        Kind::Writes(_) => cells::fill(out, 255),
     }
 }
 
@@ -97,9 +99,8 @@ pub fn show(out: &mut [u8], part: u32, regs: Regs, array: &[u8], bytes: &[u8], v
     requires { (length array.now ≡ (part_of part).size) × (length out.old ≤ (part_of part).size) }
     ensures { out.new ≡ tabulate (length out.old) (out_at (part_of part) regs array.now bytes.now verdict) }
 {
-    let Verdict::CarriedOut(kind) = verdict else {
-        cells::fill(out, 255);
-        return;
-    };
-    drive(out, part, regs, array, bytes, kind);
+    match verdict {
+        Verdict::CarriedOut(kind) => drive(out, part, regs, array, bytes, kind),
+        Verdict::Ignored(_) => cells::fill(out, 255),
+    }
 }

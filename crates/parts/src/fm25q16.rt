@@ -1,4 +1,6 @@
 // The FM25Q16's description as code, table by table.
+#![tactic(auto, using(lists::proofs::Choice::choices, std::proofs::lemmas::Bool::Decides::nat_tests), unfolding(rules::specs::Fm25q16::fm_heard_asleep, rules::specs::Fm25q16::fm_heard_busy, rules::specs::Fm25q16::fm_erases, rules::specs::Fm25q16::fm_lo, rules::specs::Fm25q16::fm_hi, rules::specs::Fm25q16::fm_first, rules::specs::Fm25q16::fm_second, rules::specs::Fm25q16::fm_jedec, rules::specs::Fm25q16::fm_status_written, rules::specs::Fm25q16::fm_guard_bytes))]
+
 ghost use Rattle.std.specs.Prelude.{◌≡◌, ◌≤◌};
 ghost use Rattle.rules.specs.Part.{row_in};
 ghost use Rattle.rules.specs.Fm25q16.{fm_size, fm_commands, fm_heard_asleep, fm_heard_busy, fm_erases, fm_area, fm_lo, fm_hi, fm_first, fm_second, fm_jedec, fm_status_written, fm_guard_bytes};
@@ -23,14 +25,16 @@ pub const MAKER: u8 = 0xF8;
 pub const DEVICE: u8 = 0x14;
 
 // The area at BP 0 to 7, where SEC is 0 and where it is 1.
+// Kept two: document 01's two columns. As one array of two rows it was tried, and the proof of `area` did not close.
 const SEC0: [usize; 8] = [0, 65536, 131072, 262144, 524288, 1048576, 2097152, 2097152];
 
 const SEC1: [usize; 8] = [0, 4096, 8192, 16384, 32768, 32768, 2097152, 2097152];
 
+#[tactic(auto, using(lists::proofs::Choice::choices, std::proofs::lemmas::Bool::Decides::nat_tests), unfolding(rules::specs::Part::row_in, rules::specs::Fm25q16::fm_commands))]
 pub fn row_of(op: u8) -> Option<Row>
     ensures { result ≡ row_in fm_commands op }
 {
-    match op {
+    Some(match op {
         0x06 => exactly(0x06, Kind::WriteEnable, 1),
         0x04 => exactly(0x04, Kind::WriteDisable, 1),
         0x05 => or_more(0x05, Kind::ReadStatusLow, 1),
@@ -58,8 +62,8 @@ pub fn row_of(op: u8) -> Option<Row>
         0xAB => or_more(0xAB, Kind::Wake, 1),
         0x90 => or_more(0x90, Kind::ReadMakerDevice, 4),
         0x9F => or_more(0x9F, Kind::ReadJedec, 1),
-        _ => None,
-    }
+        _ => return None,
+    })
 }
 
 pub fn heard_asleep(op: u8) -> bool
@@ -71,10 +75,7 @@ pub fn heard_asleep(op: u8) -> bool
 pub fn heard_busy(op: u8) -> bool
     ensures { result ≡ fm_heard_busy op }
 {
-    if op == 0x05 {
-        return true;
-    }
-    op == 0x35
+    op == 0x05 || op == 0x35
 }
 
 pub fn erases(unit: EraseUnit) -> bool
@@ -84,32 +85,33 @@ pub fn erases(unit: EraseUnit) -> bool
 }
 
 // How many bytes a setting protects.
+#[tactic(auto, using(lists::proofs::Choice::choices, laws::proofs::Fm25q16::fm_area_small), unfolding(rules::specs::Fm25q16::fm_area, rules::specs::Fm25q16::fm_sec0, rules::specs::Fm25q16::fm_sec1))]
 fn area(s: u8) -> usize
     ensures { (result ≡ fm_area s) × (result ≤ fm_size) }
 {
-    let bp = (s % 8) as usize;
-    if s / 16 % 2 == 0 {
-        return SEC0[bp];
-    }
-    SEC1[bp]
+    let bp = usize::from(s % 8);
+    if s / 16 % 2 == 0 { SEC0[bp] } else { SEC1[bp] }
 }
 
+// Kept two: the area's two ends, each a field of the description.
 pub fn lo(setting: u8) -> usize
     ensures { result ≡ fm_lo setting }
 {
     if setting / 8 % 2 == 0 {
-        return SIZE - area(setting);
+        SIZE - area(setting)
+    } else {
+        0
     }
-    0
 }
 
 pub fn hi(setting: u8) -> usize
     ensures { result ≡ fm_hi setting }
 {
     if setting / 8 % 2 == 0 {
-        return SIZE;
+        SIZE
+    } else {
+        area(setting)
     }
-    area(setting)
 }
 
 pub fn jedec(place: usize) -> u8
@@ -122,6 +124,8 @@ pub fn jedec(place: usize) -> u8
         _ => 0xFF,
     }
 }
+
+// Kept two: each byte of a status write has bits of its own.
 
 // The first byte's bits 7 to 2.
 fn first(r: Regs, b: u8) -> Regs
@@ -142,9 +146,10 @@ pub fn status_written(regs: Regs, bytes: &[u8]) -> Regs
 {
     let t = first(regs, lists::byte_at(bytes, 1));
     if bytes.len() == 3 {
-        return second(t, lists::byte_at(bytes, 2));
+        second(t, lists::byte_at(bytes, 2))
+    } else {
+        t
     }
-    t
 }
 
 pub fn guard_bytes(setting: u8) -> [u8; 3]

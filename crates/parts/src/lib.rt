@@ -1,5 +1,6 @@
 // What the code asks of a chip's description, by part number. A new chip is an arm in each of these; no contract moves.
-#![tactic(auto)]
+// Kept: each function is a field of the description; a trait would say each of them again, once for the trait and once a chip.
+#![tactic(auto, using(lists::proofs::Choice::choices, std::proofs::lemmas::Bool::Decides::nat_tests), unfolding(rules::specs::Parts::is_part, rules::specs::Parts::part_of, rules::specs::Part::row_of, rules::specs::Fm25q16::fm25q16))]
 
 use rules::{EraseUnit, Kept, Kind, Regs, Row};
 
@@ -13,6 +14,7 @@ ghost use Rattle.rules.specs.WellFormed.{word_formed, awake_formed, well_formed}
 ghost use Rattle.rules.specs.Job.{guard_limit};
 
 // A part that there is; any other number is refusal 1.
+// Kept a number, here and in all that is asked by part: C hands one in, and the public functions promise for any.
 pub fn is_part(part: u32) -> bool
     ensures { result ≡ is_part part }
 {
@@ -46,41 +48,26 @@ fn sleeps(part: u32) -> bool
     fm25q16::SLEEPS
 }
 
+#[tactic(auto, using(std::proofs::lemmas::Bool::Decides::nat_tests), unfolding(rules::specs::WellFormed::word_formed))]
 fn word_formed(part: u32, status: u32) -> bool
     ensures { result ≡ word_formed (part_of part) status }
 {
-    if status_end(part) <= status {
-        return false;
-    }
-    if status % 2 != 1 {
-        return true;
-    }
-    status / 2 % 2 == 1
+    status < status_end(part) && (status % 2 != 1 || status / 2 % 2 == 1)
 }
 
+#[tactic(auto, using(std::proofs::lemmas::Bool::Decides::nat_tests), unfolding(rules::specs::WellFormed::awake_formed))]
 fn awake_formed(part: u32, kept: Kept) -> bool
     ensures { result ≡ awake_formed (part_of part) kept }
 {
-    if kept.awake == 1 {
-        return true;
-    }
-    if kept.awake != 0 {
-        return false;
-    }
-    if kept.status % 2 == 1 {
-        return false;
-    }
-    sleeps(part)
+    kept.awake == 1 || kept.awake == 0 && kept.status % 2 != 1 && sleeps(part)
 }
 
 // Else refusal 3; judged on the caller's own numbers.
+#[tactic(auto, using(std::proofs::lemmas::Bool::Decides::nat_tests), unfolding(rules::specs::WellFormed::well_formed))]
 pub fn well_formed(part: u32, kept: Kept) -> bool
     ensures { result ≡ well_formed (part_of part) kept }
 {
-    if !word_formed(part, kept.status) {
-        return false;
-    }
-    awake_formed(part, kept)
+    word_formed(part, kept.status) && awake_formed(part, kept)
 }
 
 // The registers after the bytes of a status write.
@@ -162,6 +149,7 @@ pub fn jedec(part: u32, place: usize) -> u8
 }
 
 // ---- a guard's bytes, the command first
+// Kept: three bytes and how many are sent, since there is no heap; and the setting's bound in a `requires`, since it is the part's.
 
 pub fn guard_bytes(part: u32, setting: u8) -> [u8; 3]
     requires { setting ≤ (part_of part).setting_limit }
@@ -171,6 +159,7 @@ pub fn guard_bytes(part: u32, setting: u8) -> [u8; 3]
 }
 
 // How many of them are sent.
+#[tactic(auto, unfolding(rules::specs::Parts::part_of, rules::specs::Fm25q16::fm25q16, rules::specs::Fm25q16::fm_guard_bytes))]
 pub fn guard_length(part: u32, setting: u8) -> usize
     ensures { (result ≡ length ((part_of part).guard_bytes setting)) × (result ≤ 3) }
 {

@@ -9,21 +9,25 @@ use rules::{Kept, Regs};
 
 // ---- the two status bytes
 
+// Kept two: each is a definition of the rules, and a read drives one of them.
 #[tactic(auto, unfolding(rules::specs::Status::kept_of, rules::specs::Status::low_byte))]
 pub fn low_byte(regs: Regs) -> u8
     ensures { result ≡ low_byte regs }
 {
-    (Kept::from(regs).status % 256) as u8
+    let [low, ..] = Kept::from(regs).status.to_le_bytes();
+    low
 }
 
 #[tactic(auto, unfolding(rules::specs::Status::kept_of, rules::specs::Status::status_of, rules::specs::Status::high_byte))]
 pub fn high_byte(regs: Regs) -> u8
     ensures { result ≡ high_byte regs }
 {
-    (Kept::from(regs).status / 256) as u8
+    let [_, high, ..] = Kept::from(regs).status.to_le_bytes();
+    high
 }
 
 // ---- one register set
+// Kept seven: each sets another field, in one line, and is a definition of the rules.
 
 pub fn with_busy(regs: Regs, on: bool) -> Regs
     ensures { result ≡ with_busy regs on }

@@ -39,10 +39,6 @@ unfolding play_rec turn_of
 turned p r l m b x high v regs array meter e f g h =
     (λ i. state (f i) (h i) (g i)) ∙ ap (λ (w : Verdict). state (regs_after p r b w) (array_after p l b w) (meter_after m w)) e
 
--- an event leaves the array
-pub on-array : (l : List ℕ) {r s : Regs} {m n : Meter} → (r ≡ s) × (m ≡ n) → state r l m ≡ state s l n
-on-array l e = λ i. state (e.0 i) l (e.1 i)
-
 -- ---- room
 
 count_room : (m : Meter) (n : ℕ) (w : Write) → Room m (suc n) → Room (counted m w) n
@@ -76,16 +72,15 @@ recs_more t p n h =
     let e : n - p ≡ suc (n - (p + 1)) = omega arith in
     rw (e, add-one p)
 
--- a state that record p leads to goes on with the records after it
-pub play_more : (p : Part) (t : List ℕ) (k n : ℕ) (s s' : State) → k < n → s' ≡ play_rec p (rec_at t k) s
-    → play p (recs_from t (k + 1) (n - (k + 1))) s' ≡ play p (recs_from t k (n - k)) s
+-- the records from k on are record k, and those after it
+pub play_more : (p : Part) (t : List ℕ) (k n : ℕ) (s : State) → k < n
+    → play p (recs_from t k (n - k)) s ≡ play p (recs_from t (k + 1) (n - (k + 1))) (play_rec p (rec_at t k) s)
 unfolding play
-play_more p t k n s s' h e =
-    ap (λ (w : State). play p (recs_from t (k + 1) (n - (k + 1))) w) e ∙ sym (ap (λ (es : List Rec). play p es s) (recs_more t k n h))
+play_more p t k n s h = ap (λ (es : List Rec). play p es s) (recs_more t k n h)
 
-pub play-over : (p : Part) (t : List ℕ) (k n : ℕ) (s : State) → n ≤ k → play p (recs_from t k (n - k)) s ≡ s
+pub play_over : (p : Part) (t : List ℕ) (k n : ℕ) (s : State) → n ≤ k → play p (recs_from t k (n - k)) s ≡ s
 unfolding play recs_from
-play-over p t k n s h = let e : n - k ≡ 0 = omega arith in rw e
+play_over p t k n s h = let e : n - k ≡ 0 = omega arith in rw e
 
 -- the first k of n records
 pub take_recs : (t : List ℕ) (p k n : ℕ) → take k (recs_from t p n) ≡ recs_from t p (min k n)

@@ -1,1 +1,2 @@
 pub mod Playable
+pub mod Held

@@ -9,79 +9,67 @@ ghost use Rattle.rules.specs.Play.{state, play_rec, play};
 ghost use Rattle.rules.specs.Replay.{records_refusal, replay_refusal, replay_told, replay_seen, replay_first_of, replay_of};
 ghost use Rattle.laws.specs.Room.{Room};
 ghost use Rattle.replay.specs.Playable.{Playable};
+ghost use Rattle.replay.specs.Held.{Same, held};
 
+use chip::Chip;
+use judge::Transaction;
 use rules::{Kept, Meter, Played, Record, Refusal, Regs, Sent};
 
-// What a record changes besides the array.
-#[derive(Clone, Copy)]
-struct Playing {
-    regs: Regs,
-    meter: Meter,
+// The transaction whose bytes lie in the tape after the record's four head bytes.
+fn play_sent(chip: &mut Chip<'_>, tape: &[u8], sent: Sent)
+    requires { (sent.start + sent.length ≤ length tape.now) × Room chip.old.meter 1 }
+    ensures same { Same chip.old chip.new }
+    ensures played { held chip.new ≡ play_rec (part_of chip.old.part) (transaction (take sent.length (drop sent.start tape.now)) sent.leftover sent.high) (held chip.old) }
+{
+    let bytes = &tape[sent.start..sent.start + sent.length];
+    chip::turn(
+        chip,
+        Transaction {
+            bytes,
+            leftover: u32::from(sent.leftover),
+            high: sent.high,
+        },
+    );
 }
 
-// The transaction whose bytes lie in the tape after the record's four head bytes.
-fn play_sent(part: u32, s: Playing, array: &mut [u8], tape: &[u8], sent: Sent) -> Playing
-    requires { (length array.old ≡ (part_of part).size) × (sent.length ≤ sent_limit) × (sent.start + sent.length ≤ length tape.now) × Room s.meter 1 }
-    ensures { state result.regs array.new result.meter ≡ play_rec (part_of part) (transaction (take sent.length (drop sent.start tape.now)) sent.leftover sent.high) (state s.regs array.old s.meter) }
+// Kept: each of the two events makes its own promise.
+fn ended(chip: &mut Chip<'_>)
+    ensures same { Same chip.old chip.new }
+    ensures played { held chip.new ≡ state (finished chip.old.regs) chip.old.array.now chip.old.meter }
 {
-    let end = sent.start + sent.length;
-    let t = chip::turn(
-        part,
-        s.regs,
-        s.meter,
-        array,
-        &tape[sent.start..end],
-        sent.leftover as u32,
-        sent.high,
-    );
-    Playing {
-        regs: t.regs,
-        meter: t.meter,
-    }
+    chip.regs = regs::finished(chip.regs);
+}
+
+fn cycled(chip: &mut Chip<'_>)
+    ensures same { Same chip.old chip.new }
+    ensures played { held chip.new ≡ state (power_cycled chip.old.regs) chip.old.array.now chip.old.meter }
+{
+    chip.regs = regs::power_cycled(chip.regs);
 }
 
 // Record p.
-fn play_at(part: u32, s: Playing, array: &mut [u8], tape: &[u8], p: usize) -> Playing
-    requires { (length array.old ≡ (part_of part).size) × Playable tape.now (p + 1) × Room s.meter 1 }
-    ensures { state result.regs array.new result.meter ≡ play_rec (part_of part) (rec_at tape.now p) (state s.regs array.old s.meter) }
+fn play_at(chip: &mut Chip<'_>, tape: &[u8], p: usize)
+    requires { Playable tape.now (p + 1) × Room chip.old.meter 1 }
+    ensures same { Same chip.old chip.new }
+    ensures played { held chip.new ≡ play_rec (part_of chip.old.part) (rec_at tape.now p) (held chip.old) }
 {
     match tape::said_at(tape, p) {
-        Record::Transaction(sent) => play_sent(part, s, array, tape, sent),
-        Record::Finish => ended(s.regs, s.meter),
-        Record::PowerCycle => cycled(s.regs, s.meter),
-    }
-}
-
-fn ended(r: Regs, m: Meter) -> Playing
-    ensures { (result.regs ≡ finished r) × (result.meter ≡ m) }
-{
-    Playing {
-        regs: regs::finished(r),
-        meter: m,
-    }
-}
-
-fn cycled(r: Regs, m: Meter) -> Playing
-    ensures { (result.regs ≡ power_cycled r) × (result.meter ≡ m) }
-{
-    Playing {
-        regs: regs::power_cycled(r),
-        meter: m,
+        Record::Transaction(sent) => play_sent(chip, tape, sent),
+        Record::Finish => ended(chip),
+        Record::PowerCycle => cycled(chip),
     }
 }
 
 // The first n records.
-fn play_first(part: u32, start: Playing, array: &mut [u8], tape: &[u8], count: usize) -> Playing
-    requires { (length array.old ≡ (part_of part).size) × Playable tape.now count × Room start.meter count }
-    ensures { state result.regs array.new result.meter ≡ play (part_of part) (recs_from tape.now 0 count) (state start.regs array.old start.meter) }
+#[tactic(auto, using(crate::proofs::Steps::play_over))]
+fn play_first(chip: &mut Chip<'_>, tape: &[u8], count: usize)
+    requires { Playable tape.now count × Room chip.old.meter count }
+    ensures same { Same chip.old chip.new }
+    ensures played { held chip.new ≡ play (part_of chip.old.part) (recs_from tape.now 0 count) (held chip.old) }
 {
-    let mut s = start;
-    let mut p = 0;
-    while p < count {
-        s = play_at(part, s, array, tape, p);
-        p += 1;
+    for p in 0..count {
+        play_at(chip, tape, p);
     }
-    s
 }
 
 // ---- the checks, all before the first record
@@ -98,19 +86,11 @@ fn refuse_records(m: Meter, tape: &[u8]) -> Result<(), Refusal>
 }
 
 // 1, 2, 3, 30, 31, 7: array of al bytes.
-#[tactic(auto, using(lists::proofs::Choice::choices, std::proofs::lemmas::Bool::Decides::nat_tests), unfolding(rules::specs::Replay::replay_refusal))]
+#[tactic(auto, using(laws::proofs::Accepted::opened_goes, lists::proofs::Choice::choices), unfolding(rules::specs::Replay::replay_refusal))]
 fn refusal_of(part: u32, al: usize, kept: Kept, m: Meter, tape: &[u8]) -> Result<(), Refusal>
     ensures { result ≡ replay_refusal part al kept m tape.now }
 {
-    if !parts::is_part(part) {
-        return Err(Refusal::UnknownPart);
-    }
-    if al != parts::size_of(part) {
-        return Err(Refusal::ArrayLength);
-    }
-    if !parts::well_formed(part, kept) {
-        return Err(Refusal::NotWellFormed);
-    }
+    refusals::opened(part, al, kept)?;
     if !tape::is_whole(tape) {
         return Err(Refusal::CutTape);
     }
@@ -131,15 +111,17 @@ pub fn replay_first(
     ensures { replay_seen (replay_told kept meter result) array.new ≡ replay_first_of part kept meter array.old tape.now k }
 {
     refusal_of(part, array.len(), kept, meter, tape)?;
-    let n = lists::lesser(k, tape::record_count(tape));
-    let start = Playing {
+    let count = k.min(tape::record_count(tape));
+    let mut chip = Chip {
+        part,
         regs: Regs::from(kept),
-        meter: meter,
+        meter,
+        array,
     };
-    let s = play_first(part, start, array, tape, n);
+    play_first(&mut chip, tape, count);
     Ok(Played {
-        regs: Kept::from(s.regs),
-        meter: s.meter,
+        regs: Kept::from(chip.regs),
+        meter: chip.meter,
     })
 }
 

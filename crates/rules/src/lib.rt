@@ -3,6 +3,7 @@
 
 mod numbers;
 mod status;
+mod units;
 
 // ---- document 01's sizes and limits: one name a rule, as in specs/
 
@@ -41,6 +42,7 @@ pub const LISTING_LIMIT: usize = 65472;
 // ---- what the caller keeps
 
 // The registers as the caller keeps them: 16 status bits, and 1 for awake or 0 for asleep.
+// Kept numbers: C hands them in, and refusal 3 is decided on any two.
 #[repr(C)]
 #[derive(Clone, Copy)]
 pub struct Kept {
@@ -141,6 +143,7 @@ pub enum Reason {
     Protected = 16,
 }
 
+// Kept an enum of its own: document 01, "What to write where", asks for it, and for its `let .. else` in the callers.
 #[derive(Clone, Copy)]
 pub enum Verdict {
     CarriedOut(Kind),
@@ -184,6 +187,7 @@ pub struct Played {
 }
 
 // Where a tape holds a transaction's bytes, with its leftover bits and the level of /WP.
+// Kept a start and a length: document 01, "What to write where", hands on the part of the tape; and C is told both.
 #[derive(Clone, Copy)]
 pub struct Sent {
     pub start: usize,
@@ -225,7 +229,8 @@ pub enum Step {
 }
 
 // By how much a job's tape raises the meter, and how many bytes it is long.
-#[derive(Clone, Copy)]
+// Kept beside `Meter` and the C interface's `TbBill`, which have three of its fields: those two are laid out for C.
+#[derive(Clone, Copy, Default)]
 pub struct Bill {
     pub programs: u32,
     pub erases: u32,

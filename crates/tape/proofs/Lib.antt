@@ -1,5 +1,6 @@
 pub mod Scan
 pub mod Good
+pub mod Chunks
 pub mod Said
 pub mod Encoded
 pub mod Round

@@ -1,17 +1,15 @@
 -- Loops that look at one place after the other.
-use Rattle.std.specs.Prelude.{Some, None}
 use mathlib.Core.Path.{◌≡◌, refl, sym, ap, ◌∙◌}
 use mathlib.Core.Bool.{Bool, true, false, ◌&&◌, and_assoc}
-use Prim.Native.Nat.{ℕ, zero, suc, ◌+◌, ◌-◌, ◌≤◌, ◌<◌}
+use Prim.Native.Nat.{ℕ, zero, suc, ◌+◌, ◌<◌}
 use native.Mathlib.Omega.{arith}
 use native.Mathlib.Nat.{add-zero}
-use native.Mathlib.Numerals.{add-one}
 use lib.Bits.{bit_or, or_add_and, and_le_r, or_zero_l}
 use lib.Dec.{eqb}
 use borrow.Author.Tests.{eqb-true, eqb-false, ne_eqb}
 use Rattle.lists.specs.Choice.{◌=?◌}
-use Rattle.lists.specs.Places.{first_in, every_in}
-use Rattle.lists.proofs.Choice.{if-true, if-false, and_true}
+use Rattle.lists.specs.Places.{every_in}
+use Rattle.lists.proofs.Choice.{and_true}
 
 -- ---- a test at every place
 
@@ -46,23 +44,3 @@ or_zero a b = go (eqb a 0) refl
     go false e =
         let h = eqb-false a 0 e in
         ne_eqb (bit_or a b) 0 (λ q. h (omega (arith, or_add_and a b, and_le_r a b)))
-
--- ---- the first place, by a loop that has come to p
-
-pub first_here : (f : ℕ → Bool) (p n : ℕ) → p < n → f p ≡ true → first_in f p (n - p) ≡ Some p
-unfolding first_in
-first_here f p n h e =
-    let d : n - p ≡ suc (n - (p + 1)) = omega arith in
-    rw d (if-true _ _ _ e)
-
-pub first_on : (f : ℕ → Bool) (p n : ℕ) → p < n → f p ≡ false → first_in f (p + 1) (n - (p + 1)) ≡ first_in f p (n - p)
-unfolding first_in
-first_on f p n h e =
-    let d : n - p ≡ suc (n - (p + 1)) = omega arith in
-    rw (d, add-one p) (sym (if-false _ _ _ e))
-
-pub first_over : (f : ℕ → Bool) (p n : ℕ) → n ≤ p → first_in f p (n - p) ≡ None
-unfolding first_in
-first_over f p n h =
-    let d : n - p ≡ 0 = omega arith in
-    rw d

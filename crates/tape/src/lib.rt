@@ -1,7 +1,7 @@
 // A tape's records: read at a place, checked, written. The place is a number first; the reader stands above.
 #![tactic(auto)]
 
-ghost use Rattle.std.specs.Prelude.{◌≡◌, ◌++◌, ◌+◌, ◌*◌, ◌≤◌, ◌<◌, ◌^◌, length, take, drop, replicate};
+ghost use Rattle.std.specs.Prelude.{◌≡◌, ◌++◌, ◌+◌, ◌*◌, ◌≤◌, ◌<◌, ◌^◌, length, take, drop};
 ghost use Rattle.lists.specs.Places.{every_in};
 ghost use Rattle.rules.specs.Status.{flag};
 ghost use Rattle.rules.specs.Tape.{Rec, record_length, sent_limit, length_at, whole, records, is_zero, good_record, first_bad, encode_rec};
@@ -30,15 +30,8 @@ pub fn record_count(tape: &[u8]) -> usize
 pub fn first_bad(tape: &[u8]) -> Option<usize>
     ensures { result ≡ first_bad tape.now }
 {
-    let n = record_count(tape);
-    let mut p = 0;
-    while p < n {
-        if !is_good(tape, p) {
-            return Some(p);
-        }
-        p += 1;
-    }
-    None
+    let (records, _) = tape.as_chunks::<RECORD_LENGTH>();
+    records.iter().position(|bytes| !is_good(bytes))
 }
 
 // ---- one record
@@ -55,86 +48,64 @@ fn all_zero(s: &[u8]) -> bool
     joined == 0
 }
 
-fn sent_length(tape: &[u8], place: usize) -> usize
-    requires { place < records tape.now }
-    ensures { (result ≡ length_at tape.now place) × (result < 65536) }
+fn sent_length(bytes: &[u8; RECORD_LENGTH]) -> usize
+    ensures { (result ≡ length_at bytes.now 0) × (result < 65536) }
 {
-    let at = RECORD_LENGTH * place;
-    tape[at] as usize * 256 + tape[at + 1] as usize
+    u16::from_be_bytes([bytes[0], bytes[1]]) as usize
 }
 
 // Four head bytes that 31 lets pass.
+// Kept bytes: this asks what the tape has; what a good record says is a `Record`.
 #[tactic(auto, using(std::proofs::lemmas::Bool::Decides::nat_tests), unfolding(crate::specs::Record::head_good))]
 fn is_good_head(n: usize, kind: u8, bits: u8) -> bool
     ensures { result ≡ head_good n kind bits }
 {
-    if SENT_LIMIT < n {
-        return false;
-    }
-    if 2 < kind {
-        return false;
-    }
-    if 15 < bits {
-        return false;
-    }
-    if kind == 0 {
-        return true;
-    }
-    if n != 0 {
-        return false;
-    }
-    bits == 0
+    n <= SENT_LIMIT && kind <= 2 && bits <= 15 && (kind == 0 || n == 0 && bits == 0)
 }
 
 // A record that 31 lets pass.
-fn is_good(tape: &[u8], place: usize) -> bool
-    requires { place < records tape.now }
-    ensures { result ≡ good_record tape.now place }
+#[tactic(auto, using(crate::proofs::Good::head_short, crate::proofs::Good::bad_head))]
+fn is_good(bytes: &[u8; RECORD_LENGTH]) -> bool
+    ensures { result ≡ good_record bytes.now 0 }
 {
-    let at = RECORD_LENGTH * place;
-    let n = sent_length(tape, place);
-    if !is_good_head(n, tape[at + 2], tape[at + 3]) {
-        return false;
-    }
-    let from = at + 4 + n;
-    let end = at + RECORD_LENGTH;
-    all_zero(&tape[from..end])
+    let n = sent_length(bytes);
+    is_good_head(n, bytes[2], bytes[3]) && all_zero(&bytes[4 + n..])
 }
 
 // What a record says that 30 and 31 let pass.
+#[tactic(auto, using(crate::proofs::Chunks::chunk_byte, lists::proofs::Choice::choices, std::proofs::lemmas::Bool::Decides::nat_tests), unfolding(rules::specs::Reading::said_at))]
 pub fn said_at(tape: &[u8], place: usize) -> Record
     requires { place < records tape.now }
     ensures { result ≡ said_at tape.now place }
 {
-    let at = RECORD_LENGTH * place;
-    let kind = tape[at + 2];
-    if kind == 0 {
-        let bits = tape[at + 3];
-        return Record::Transaction(Sent {
-            start: at + 4,
-            length: sent_length(tape, place),
-            leftover: bits % 8,
-            high: 8 <= bits,
-        });
+    let (records, _) = tape.as_chunks::<RECORD_LENGTH>();
+    let bytes = &records[place];
+    match bytes[2] {
+        0 => Record::Transaction(Sent {
+            start: RECORD_LENGTH * place + 4,
+            length: sent_length(bytes),
+            leftover: bytes[3] % 8,
+            high: 8 <= bytes[3],
+        }),
+        1 => Record::Finish,
+        _ => Record::PowerCycle,
     }
-    if kind == 1 {
-        return Record::Finish;
-    }
-    Record::PowerCycle
 }
 
 // ---- a read at a place
 
+#[tactic(auto, using(crate::proofs::Chunks::found_good, lists::proofs::Choice::choices, std::proofs::lemmas::Bool::Decides::nat_tests), unfolding(rules::specs::Reading::read_at, rules::specs::Reading::read_of))]
 pub fn read_at(tape: &[u8], place: usize) -> Result<Option<Record>, Fault>
     ensures { read_told place result ≡ read_of tape.now place }
 {
     if !is_whole(tape) {
         return Err(Fault::CutTape);
     }
-    if record_count(tape) <= place {
+    let (records, _) = tape.as_chunks::<RECORD_LENGTH>();
+    let Some(bytes) = records.get(place) else {
         return Ok(None);
-    }
-    if !is_good(tape, place) {
+    };
+    if !is_good(bytes) {
         return Err(Fault::BadRecord);
     }
     Ok(Some(said_at(tape, place)))
@@ -170,13 +141,6 @@ pub fn reading_at(tape: &[u8], place: usize) -> Reading
 
 // ---- a record written
 
-// Each byte becomes 0.
-fn clear(s: &mut [u8])
-    ensures { s.new ≡ replicate (length s.old) 0 }
-{
-    s.fill(0);
-}
-
 // The bytes from the start on become the given ones.
 pub fn put(out: &mut [u8], start: usize, bytes: &[u8])
     requires { start + length bytes.now ≤ length out.old }
@@ -190,16 +154,16 @@ fn bits_of(leftover: u8, high: bool) -> u8
     requires { leftover ≤ 7 }
     ensures { result ≡ leftover + flag high * 8 }
 {
-    if high { leftover + 8 } else { leftover }
+    leftover + 8 * u8::from(high)
 }
 
 pub fn put_transaction(out: &mut [u8], bytes: &[u8], leftover: u8, high: bool)
     requires { (length out.old ≡ record_length) × (length bytes.now ≤ sent_limit) × (leftover ≤ 7) }
     ensures { out.new ≡ encode_rec (Rec.transaction bytes.now leftover high) }
 {
-    let n = bytes.len();
-    let head = [(n / 256) as u8, (n % 256) as u8, 0, bits_of(leftover, high)];
-    clear(out);
+    let [high_byte, low_byte] = (bytes.len() as u16).to_be_bytes();
+    let head = [high_byte, low_byte, 0, bits_of(leftover, high)];
+    out.fill(0);
     put(out, 0, &head);
     put(out, 4, bytes);
 }
@@ -208,12 +172,13 @@ pub fn put_finish(out: &mut [u8])
     requires { length out.old ≡ record_length }
     ensures { out.new ≡ encode_rec Rec.finish }
 {
-    clear(out);
+    out.fill(0);
     out[2] = 1;
 }
 
 // ---- the reader
 
+// Kept: functions and no methods, since docs/PINNED.md pins them by name and the claims speak of them.
 // It keeps hold of the caller's bytes and its place. Each function takes it apart and leaves the work to `reading_at`.
 #[derive(Drop)]
 pub struct Reader<'a> {

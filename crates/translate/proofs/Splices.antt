@@ -6,20 +6,14 @@ use native.Mathlib.Omega.{arith}
 use lib.ListN.{length, take, drop, length-append, take-append-drop}
 use lib.Seq.{take_at, length-take-le, drop-append-add, drop-drop}
 use borrow.Rule.Slice.PartMut.{put_mid, Post-is}
-use Rattle.rules.specs.Tape.{Rec, encode_rec}
-use Rattle.laws.proofs.RecordOk.{RecOk}
-use Rattle.tape.proofs.Encoded.{rec_length}
-use Rattle.translate.specs.Spliced.{spliced, Fits}
+use Rattle.translate.specs.Spliced.{spliced}
 
--- record k's place was lent, and left as ys, the bytes of r
-pub put_record : (l ys : List ℕ) (k : ℕ) {r : Rec} → RecOk r → Fits l k 1 → ys ≡ encode_rec r
-    → put_mid (264 * k) (264 * k + 264 - 264 * k) l ys ≡ spliced l (264 * k) (encode_rec r)
+-- the part from a to b was lent, and left as ys
+pub lent_spliced : (l ys : List ℕ) (a b : ℕ) → a ≤ b → b ≤ length l → length ys ≡ b - a → put_mid a (b - a) l ys ≡ spliced l a ys
 unfolding spliced
-put_record l ys k ok f e =
-    let room = f.fits in
-    let long = ap length e ∙ rec_length ok in
-    ap (λ (w : List ℕ). take (264 * k) l ++ (ys ++ w)) (Post-is (264 * k) (264 * k + 264) l (omega arith) ∙ ap (λ (n : ℕ). drop (264 * k + n) l) (sym long))
-    ∙ ap (spliced l (264 * k)) e
+lent_spliced l ys a b h k e =
+    let end : b ≡ a + length ys = omega (arith, e) in
+    ap (λ (w : List ℕ). take a l ++ (ys ++ w)) (Post-is a b l (omega arith) ∙ ap (λ (n : ℕ). drop n l) end)
 
 pub splice_none : (l : List ℕ) (a : ℕ) → spliced l a [] ≡ l
 unfolding spliced
@@ -49,17 +43,6 @@ pub splice_recs : (l : List ℕ) (k n : ℕ) (xs ys : List ℕ) → length xs �
 splice_recs l k n xs ys e h =
     let q : 264 * (k + n) ≡ 264 * k + length xs = omega (arith, e) in
     ap (λ (a : ℕ). spliced (spliced l (264 * k) xs) a ys) q ∙ splice_on l (264 * k) xs ys (omega (arith, e))
-
--- a head of four bytes, then the data, put into a buffer z: what stands at its front is both
-pub head_and_data : (z s₁ s₂ head rest : List ℕ) → length head ≡ 4 → s₁ ≡ (take 0 z ++ head) ++ drop (0 + length head) z
-    → s₂ ≡ (take 4 s₁ ++ rest) ++ drop (4 + length rest) s₁ → take (4 + length rest - 0) s₂ ≡ head ++ rest
-head_and_data z s₁ s₂ head rest e f g =
-    let n : 4 + length rest - 0 ≡ 4 + length rest = omega arith in
-    let front : take 4 s₁ ≡ head = ap (take 4) f ∙ take_at head (drop (0 + length head) z) 4 e in
-    let both : s₂ ≡ (head ++ rest) ++ drop (4 + length rest) s₁ =
-    g ∙ ap (λ (w : List ℕ). (w ++ rest) ++ drop (4 + length rest) s₁) front in
-    ap (λ (k : ℕ). take k s₂) n ∙ ap (take (4 + length rest)) both
-    ∙ take_at (head ++ rest) (drop (4 + length rest) s₁) (4 + length rest) (length-append head rest ∙ ap (λ (k : ℕ). k + length rest) e)
 
 pub splice_front : (l ys : List ℕ) → spliced l 0 ys ≡ ys ++ drop (length ys) l
 unfolding spliced

@@ -2,125 +2,116 @@
 #![tactic(auto)]
 
 ghost use Rattle.std.specs.Prelude.{true, Some, ◌≡◌, ◌∷◌, ◌++◌, ◌+◌, ◌*◌, ◌≤◌, ◌<◌, length};
-ghost use Rattle.rules.specs.Tape.{Rec, encode_rec, encode, record_length, sent_limit};
+ghost use Rattle.rules.specs.Tape.{encode, record_length, sent_limit};
 ghost use Rattle.rules.specs.Parts.{part_of};
 ghost use Rattle.rules.specs.Job.{lay_bytes, steps_of};
 ghost use Rattle.rules.specs.Translate.{translate_told, translate_seen, translate_of};
 ghost use Rattle.rules.specs.Records.{three_recs, address_bytes, erase_bytes, page_recs, step_recs, job_recs};
-ghost use Rattle.rules.specs.Bill.{pages_touched};
-ghost use Rattle.job.specs.Counted.{Short};
-ghost use Rattle.translate.specs.Writable.{Writable, WritableJob, record_count, decoded_recs, decoded_count};
+ghost use Rattle.rules.specs.Bill.{pages_touched, command_length};
+ghost use Rattle.job.specs.Counted.{Short, Billable};
+ghost use Rattle.translate.specs.Writable.{Writable, WritableJob, record_count};
 ghost use Rattle.translate.specs.Spliced.{spliced, Fits};
 ghost use Rattle.lists.specs.Width.{number_end};
-ghost use Rattle.rules.specs.Units.{page, address_end};
+ghost use Rattle.rules.specs.Units.{page};
 
-use rules::{EraseUnit, PAGE, RECORD_LENGTH, Refusal, STEP_LENGTH, Span, Step};
+use rules::{COMMAND_LENGTH, EraseUnit, PAGE, RECORD_LENGTH, Refusal, STEP_LENGTH, Span, Step};
 
-// ---- records from record k on
-
-fn put_sent(tape: &mut [u8], k: usize, b: &[u8])
-    requires { Fits tape.old k 1 × (length b.now ≤ sent_limit) }
-    ensures { tape.new ≡ spliced tape.old (record_length * k) (encode_rec (Rec.transaction b.now 0 true)) }
-{
-    let at = RECORD_LENGTH * k;
-    let end = at + RECORD_LENGTH;
-    tape::put_transaction(&mut tape[at..end], b, 0, true);
-}
-
-fn put_end(tape: &mut [u8], k: usize)
-    requires { Fits tape.old k 1 }
-    ensures { tape.new ≡ spliced tape.old (record_length * k) (encode_rec Rec.finish) }
-{
-    let at = RECORD_LENGTH * k;
-    let end = at + RECORD_LENGTH;
-    tape::put_finish(&mut tape[at..end]);
-}
+// ---- the three records of a command
+// Kept: a slice of so many bytes. An array is had from a slice as an Option alone, whose None would need an arm that nothing reaches.
 
 // 06, the command, finish.
-fn put_three(tape: &mut [u8], k: usize, b: &[u8])
-    requires { Fits tape.old k 3 × (length b.now ≤ sent_limit) }
-    ensures { tape.new ≡ spliced tape.old (record_length * k) (encode (three_recs b.now)) }
+fn put_three(out: &mut [u8], b: &[u8])
+    requires { (length out.old ≡ command_length) × (length b.now ≤ sent_limit) }
+    ensures { out.new ≡ encode (three_recs b.now) }
 {
-    let enable = [6u8];
-    put_sent(tape, k, &enable);
-    put_sent(tape, k + 1, b);
-    put_end(tape, k + 2);
+    let (enable, rest) = out.split_at_mut(RECORD_LENGTH);
+    let (command, finish) = rest.split_at_mut(RECORD_LENGTH);
+    tape::put_transaction(enable, &[6], 0, true);
+    tape::put_transaction(command, b, 0, true);
+    tape::put_finish(finish);
+}
+
+// An operation code and its address, high byte first.
+fn addressed(op: u8, a: usize) -> [u8; 4]
+    ensures { result ≡ op ∷ address_bytes a }
+{
+    let [.., high, middle, low] = a.to_be_bytes();
+    [op, high, middle, low]
+}
+
+// One page of a lay: the command, its address, the data.
+// Kept: a buffer, since a record is put from one piece, and there is no heap.
+fn put_program(out: &mut [u8], a: usize, data: &[u8])
+    requires { (length out.old ≡ command_length) × (length «data».now ≤ page) }
+    ensures { out.new ≡ encode (three_recs (0x02 ∷ address_bytes a ++ «data».now)) }
+{
+    let mut sent = [0u8; 260];
+    let sent = &mut sent[..4 + data.len()];
+    tape::put(sent, 0, &addressed(2, a));
+    tape::put(sent, 4, data);
+    put_three(out, sent);
+}
+
+// An erase: the whole chip has no address.
+// Kept a match: the code of a unit is asked here alone, and with it whether an address follows.
+fn put_erase(out: &mut [u8], u: EraseUnit, a: usize)
+    requires { length out.old ≡ command_length }
+    ensures { out.new ≡ encode (three_recs (erase_bytes u a)) }
+{
+    match u {
+        EraseUnit::Sector => put_three(out, &addressed(0x20, a)),
+        EraseUnit::Block32 => put_three(out, &addressed(0x52, a)),
+        EraseUnit::Block64 => put_three(out, &addressed(0xD8, a)),
+        EraseUnit::Chip => put_three(out, &[0xC7]),
+    }
+}
+
+fn put_guard(part: u32, out: &mut [u8], g: u8)
+    requires { (length out.old ≡ command_length) × (g ≤ (part_of part).setting_limit) }
+    ensures { out.new ≡ encode (three_recs ((part_of part).guard_bytes g)) }
+{
+    let b = parts::guard_bytes(part, g);
+    let end = parts::guard_length(part, g);
+    put_three(out, &b[..end]);
 }
 
 // ---- the records of a step
 
-// One page of a lay: the command, its address, the data.
-fn put_program(tape: &mut [u8], k: usize, a: usize, data: &[u8])
-    requires { Fits tape.old k 3 × (length «data».now ≤ page) × (a < address_end) }
-    ensures { tape.new ≡ spliced tape.old (record_length * k) (encode (three_recs (0x02 ∷ address_bytes a ++ «data».now))) }
+// The pages of a lay, in ascending order.
+fn put_lay(out: &mut [u8], s: Span, payload: &[u8])
+    requires { Short s × (s.offset + s.length ≤ length payload.now) × (length out.old ≡ command_length * pages_touched s.address s.length) }
+    ensures { out.new ≡ encode (page_recs (pages_touched s.address s.length) s.address (lay_bytes payload.now s)) }
 {
-    let head = [
-        2,
-        (a / 65536 % 256) as u8,
-        (a / 256 % 256) as u8,
-        (a % 256) as u8,
-    ];
-    let end = 4 + data.len();
-    let mut sent = [0u8; 260];
-    tape::put(&mut sent, 0, &head);
-    tape::put(&mut sent, 4, data);
-    put_three(tape, k, &sent[0..end]);
-}
-
-// An erase: the whole chip has no address.
-fn put_erase(tape: &mut [u8], k: usize, u: EraseUnit, a: usize)
-    requires { Fits tape.old k 3 × (a < address_end) }
-    ensures { tape.new ≡ spliced tape.old (record_length * k) (encode (three_recs (erase_bytes u a))) }
-{
-    match u {
-        EraseUnit::Sector => put_addressed(tape, k, 0x20, a),
-        EraseUnit::Block32 => put_addressed(tape, k, 0x52, a),
-        EraseUnit::Block64 => put_addressed(tape, k, 0xD8, a),
-        EraseUnit::Chip => put_three(tape, k, &[0xC7u8]),
+    let mut a = s.address;
+    let mut data = &payload[s.offset..s.offset + s.length];
+    for i in 0..job::bill::pages_touched(s) {
+        let room = PAGE - a % PAGE;
+        let (now, later) = data.split_at(room.min(data.len()));
+        let at = COMMAND_LENGTH * i;
+        put_program(&mut out[at..at + COMMAND_LENGTH], a, now);
+        a += room;
+        data = later;
     }
 }
 
-fn put_addressed(tape: &mut [u8], k: usize, op: u8, a: usize)
-    requires { Fits tape.old k 3 × (a < address_end) }
-    ensures { tape.new ≡ spliced tape.old (record_length * k) (encode (three_recs (op ∷ address_bytes a))) }
+fn put_records(part: u32, out: &mut [u8], step: Step, payload: &[u8])
+    requires { Writable (part_of part) payload.now step × (length out.old ≡ record_length * record_count step) }
+    ensures { out.new ≡ encode (step_recs (part_of part) payload.now step) }
 {
-    let b = [
-        op,
-        (a / 65536 % 256) as u8,
-        (a / 256 % 256) as u8,
-        (a % 256) as u8,
-    ];
-    put_three(tape, k, &b);
+    match step {
+        Step::EraseAt(u, a) => put_erase(out, u, a),
+        Step::Lay(s) => put_lay(out, s, payload),
+        Step::Guard(g) => put_guard(part, out, g),
+    }
 }
 
-fn put_guard(part: u32, tape: &mut [u8], k: usize, g: u8)
-    requires { Fits tape.old k 3 × (g ≤ (part_of part).setting_limit) }
-    ensures { tape.new ≡ spliced tape.old (record_length * k) (encode (three_recs ((part_of part).guard_bytes g))) }
+fn record_count(step: Step) -> usize
+    requires { Billable step }
+    ensures { result ≡ record_count step }
 {
-    let b = parts::guard_bytes(part, g);
-    let end = parts::guard_length(part, g);
-    put_three(tape, k, &b[0..end]);
-}
-
-// The pages of a lay, in ascending order.
-fn put_lay(tape: &mut [u8], k: usize, s: Span, payload: &[u8])
-    requires { Short s × (s.offset + s.length ≤ length payload.now) × Fits tape.old k (3 * pages_touched s.address s.length) }
-    ensures { tape.new ≡ spliced tape.old (record_length * k) (encode (page_recs (pages_touched s.address s.length) s.address (lay_bytes payload.now s))) }
-{
-    let n = job::bill::pages_touched(s);
-    let mut a = s.address;
-    let mut o = s.offset;
-    let mut left = s.length;
-    let mut i = 0;
-    while i < n {
-        let room = PAGE - a % PAGE;
-        let count = lists::lesser(room, left);
-        let end = o + count;
-        put_program(tape, k + 3 * i, a, &payload[o..end]);
-        a += room;
-        o = end;
-        left -= count;
-        i += 1;
+    match step {
+        Step::EraseAt(_, _) | Step::Guard(_) => 3,
+        Step::Lay(s) => 3 * job::bill::pages_touched(s),
     }
 }
 
@@ -129,30 +120,10 @@ pub fn put_step(part: u32, tape: &mut [u8], k: usize, step: Step, payload: &[u8]
     requires { Writable (part_of part) payload.now step × Fits tape.old k (record_count step) × (k < number_end) }
     ensures { (result ≡ k + record_count step) × (tape.new ≡ spliced tape.old (record_length * k) (encode (step_recs (part_of part) payload.now step))) }
 {
-    match step {
-        Step::EraseAt(u, a) => {
-            put_erase(tape, k, u, a);
-            k + 3
-        }
-        Step::Lay(s) => {
-            put_lay(tape, k, s, payload);
-            k + 3 * job::bill::pages_touched(s)
-        }
-        Step::Guard(g) => {
-            put_guard(part, tape, k, g);
-            k + 3
-        }
-    }
-}
-
-fn put_decoded(part: u32, tape: &mut [u8], k: usize, d: Option<Step>, payload: &[u8]) -> usize
-    requires { ((w : Step) → d ≡ Some w → Writable (part_of part) payload.now w) × Fits tape.old k (decoded_count d) × (k < number_end) }
-    ensures { (result ≡ k + decoded_count d) × (tape.new ≡ spliced tape.old (record_length * k) (encode (decoded_recs (part_of part) payload.now d))) }
-{
-    let Some(w) = d else {
-        return k;
-    };
-    put_step(part, tape, k, w, payload)
+    let end = k + record_count(step);
+    let out = &mut tape[RECORD_LENGTH * k..RECORD_LENGTH * end];
+    put_records(part, out, step, payload);
+    end
 }
 
 // ---- the records of a job
@@ -161,13 +132,11 @@ fn put_steps(part: u32, tape: &mut [u8], job: &[u8], payload: &[u8])
     requires { WritableJob (part_of part) payload.now job.now × Fits tape.old 0 (length (job_recs (part_of part) payload.now (steps_of job.now))) }
     ensures { tape.new ≡ spliced tape.old 0 (encode (job_recs (part_of part) payload.now (steps_of job.now))) }
 {
-    let n = job.len() / STEP_LENGTH;
     let mut k = 0;
-    let mut i = 0;
-    while i < n {
-        let d = job::decode::step_at(job, i);
-        k = put_decoded(part, tape, k, d, payload);
-        i += 1;
+    for i in 0..job.len() / STEP_LENGTH {
+        if let Some(step) = job::decode::step_at(job, i) {
+            k = put_step(part, tape, k, step, payload);
+        }
     }
 }
 

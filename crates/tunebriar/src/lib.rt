@@ -13,6 +13,7 @@ ghost use Rattle.tunebriar.specs.CEntries.{tb_answer, tb_event, tb_tape, tb_bill
 use rules::{Bill, Kept, Meter, Played, Record, Refusal, Served, Verdict};
 
 // ---- the answers as the C interface has them: numbers alone
+// Kept: a number, a kind or an index beside the value, in each struct of its own, since include/tunebriar.h lays them out so.
 
 #[repr(C)]
 #[derive(Clone, Copy)]
@@ -63,6 +64,7 @@ pub struct TbRecord {
 }
 
 // ---- answers as numbers
+// Kept functions where a refusal hands the caller's own registers and meter back: those are no function of the answer alone.
 
 fn refused(kept: Kept, meter: Meter, refusal: Refusal) -> TbAnswer
     ensures { result ≡ tb_answer (transact_told kept meter (Err refusal)) }
@@ -121,6 +123,7 @@ fn replayed(kept: Kept, meter: Meter, answer: Result<Played, Refusal>) -> TbAnsw
 }
 
 // ---- the entries
+// Kept: their parameters stand side by side, and two entries are alike but for what they call, as the C interface has it.
 
 // The caller's meter brought up to date where it lies.
 pub fn tb_count(part: u32, meter: &mut Meter, number: u32, op: u32) -> u32

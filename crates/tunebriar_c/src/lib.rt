@@ -1,5 +1,6 @@
 // The static library that C links against: each export calls the entry of `tunebriar` of its name, and promises what that one does.
 // include/tunebriar.h declares them.
+// Kept beside the entries of `tunebriar`: a crate is a library or a static library, and the C interface needs the exports.
 #![tactic(auto)]
 
 ghost use Rattle.std.specs.Prelude.{◌≡◌, length};

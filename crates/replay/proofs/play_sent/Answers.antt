@@ -1,18 +1,20 @@
 use Rattle.replay.proofs.Steps.{turned}
-use Rattle.rules.specs.Play.{state, play_rec}
+use Rattle.replay.specs.Held.{held}
+use Rattle.rules.specs.Play.{play_rec}
 use Rattle.rules.specs.Tape.{transaction}
 use Rattle.rules.specs.Parts.{part_of}
 use lib.ListN.{take, drop}
 use native.Mathlib.Omega.{arith}
-use Prim.Native.Nat.{ℕ, ◌+◌, ◌-◌}
-use mathlib.Core.Path.{◌≡◌, ap, ◌∙◌}
+use Prim.Native.Nat.{◌+◌, ◌-◌}
+use mathlib.Core.Path.{◌≡◌, ◌∙◌}
 use Rattle.replay.proofs.play_sent.Goals as goal
 
-pub returns : goal.returns
-returns c =
+pub returns-clause-played : goal.returns-clause-played
+returns-clause-played c =
     let a = c.args in
+    let h = a.chip.now in
     let w = a.sent in
-    let t = c.turn-t.ensures in
+    let t = c.turn.ensures in
     let n : w.start + w.length - w.start ≡ w.length = omega arith in
-    turned (part_of a.part) a.s.regs a.array.now a.s.meter _ _ _ _ _ _ _ t.0 t.1 t.2 t.3
-    ∙ ap (λ (k : ℕ). play_rec (part_of a.part) (transaction (take k (drop w.start a.tape.now)) w.leftover w.high) (state a.s.regs a.array.now a.s.meter)) n
+    turned (part_of h.part) h.regs h.array.now h.meter _ _ _ _ _ _ _ t.verdict t.regs t.meter t.array
+    ∙ (λ i. play_rec (part_of h.part) (transaction (take (n i) (drop w.start a.tape.now)) (c.from.ensures i) w.high) (held h))

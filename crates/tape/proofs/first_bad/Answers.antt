@@ -1,30 +1,24 @@
-use mathlib.Core.Path.{sym, ap, ◌∙◌}
-use mathlib.Core.Bool.{not}
+use Rattle.std.proofs.Common.{rules}
+use mathlib.Core.Path.{◌≡◌, ap, ◌∙◌}
+use mathlib.Core.Bool.{Bool, not}
+use mathlib.Core.List.{List}
+use Prim.Native.Nat.{ℕ, ◌+◌}
 use native.Mathlib.Omega.{arith}
-use Rattle.lists.specs.Places.{first_in}
-use Rattle.rules.specs.Tape.{records, first_bad}
-use Rattle.tape.proofs.Scan.{first_here, first_on, first_over}
-use Rattle.tape.proofs.first_bad.Invariants.{bad}
+use borrow.Author.Tests.{tests}
+use Rattle.std.proofs.lemmas.Iterator.{YieldsList-from_slice}
+use Rattle.std.specs.List.{position_from}
+use Rattle.std.proofs.lemmas.Iterator.Adapters.{position_from-zero}
+use Rattle.std.proofs.lemmas.Iterator.Search.{position_from_yields_List}
+use Rattle.rules.specs.Tape.{first_bad, good_record, records}
+use Rattle.tape.proofs.Chunks.{good-lone, chunks_first}
 use Rattle.tape.proofs.first_bad.Goals as goal
 
-pub loop-p-init : goal.loop-p-init
-unfolding first_bad
-loop-p-init c = ap (first_in (bad c.args.tape.now) 0) (omega arith)
-
-pub returns-then-not-is_good : goal.returns-then-not-is_good
-returns-then-not-is_good c =
-    let l = c.loop-p in
-    let t = c.args.tape.now in
-    sym (first_here (bad t) l.p (records t) (omega arith) (ap not ((sym c.is_good.ensures) ∙ c.if-not-is_good.true))) ∙ l.invariant
-
-pub loop-p-preserved : goal.loop-p-preserved
-loop-p-preserved c =
-    let l = c.loop-p in
-    let t = c.args.tape.now in
-    first_on (bad t) l.p (records t) (omega arith) (ap not ((sym c.is_good.ensures) ∙ c.if-not-is_good.false)) ∙ l.invariant
-
 pub returns : goal.returns
+unfolding first_bad
 returns c =
-    let l = c.loop-p in
     let t = c.args.tape.now in
-    sym (first_over (bad t) l.p (records t) (omega arith)) ∙ l.invariant
+    let bad : List ℕ → Bool = λ r. not (good_record r 0) in
+    position_from_yields_List bad _ _ c.position.result c.position.ensures.ran (YieldsList-from_slice _ c.iter.ensures.rest) (λ x b q k. search (rules, tests))
+    ∙ position_from-zero bad c.as_chunks.result.0.now
+    ∙ ap (position_from bad 0) c.as_chunks.ensures.front
+    ∙ chunks_first bad (λ p. not (good_record t p)) 0 (records t) t (λ j h. let e : j ≡ 0 + j = omega arith in ap not (good-lone t j) ∙ ap (λ (p : ℕ). not (good_record t p)) e)

@@ -3,4 +3,4 @@ use Rattle.tape.proofs.put_finish.Goals as goal
 
 pub returns : goal.returns
 returns c =
-    finish_written _ _ c.requires c.clear.ensures
+    finish_written _ _ c.requires (c.fill.ensures.after (λ y e. e))

@@ -1,7 +1,0 @@
-use Rattle.rules.specs.Parts.{part_of}
-use Rattle.rules.specs.Fm25q16.{fm25q16}
-use Rattle.parts.proofs.heard_busy.Goals as goal
-
-pub returns : goal.returns
-unfolding part_of fm25q16
-returns c = c.heard_busy.ensures

@@ -1,8 +1,0 @@
-use Rattle.rules.specs.Parts.{part_of}
-use Rattle.rules.specs.Fm25q16.{fm25q16}
-use mathlib.Core.Path.{refl}
-use Rattle.parts.proofs.size_of.Goals as goal
-
-pub returns : goal.returns
-unfolding part_of fm25q16
-returns c = refl

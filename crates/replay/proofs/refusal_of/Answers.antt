@@ -1,0 +1,12 @@
+use Rattle.std.specs.Prelude.{Err}
+use mathlib.Core.Path.{◌≡◌, sym, ◌∙◌}
+use native.Mathlib.Omega.{arith}
+use Rattle.laws.proofs.Accepted.{opened_stops}
+use Rattle.rules.specs.Replay.{replay_refusal}
+use Rattle.replay.proofs.refusal_of.Goals as goal
+
+pub returns-in_err-opened : goal.returns-in_err-opened
+unfolding replay_refusal
+returns-in_err-opened c =
+    let same : c.from_residual.result ≡ Err c.in_err-opened.field-0.0 = grind arith in
+    same ∙ sym (opened_stops _ _ _ _ _ (sym c.in_err-opened.ensures))
