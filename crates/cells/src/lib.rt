@@ -12,6 +12,8 @@ ghost use Rattle.cells.specs.Page.{last_sent, programmed_at};
 use rules::PAGE;
 
 // ---- one value, or two in turn, at every place
+// Kept over the library's `fill` and `copy_from_slice`: the promise is by places, as the callers' proofs take it.
+// Kept loops of a line, `in_turn`, `and_in` and `output::jedec`: one over a closure has a contract longer than they are.
 
 // Each byte becomes v.
 pub fn fill(bytes: &mut [u8], value: u8)
@@ -41,11 +43,11 @@ pub fn erase(array: &mut [u8], start: usize, count: usize)
 
 // The last byte sent to each place of the page, FF where none is: FF leaves what it is ANDed into.
 #[tactic(auto, using(lists::proofs::Tabulate::by_places, crate::proofs::Sent::latch_more, crate::proofs::Sent::latch_all))]
-fn latch(off: usize, bytes: &[u8]) -> [u8; 256]
+fn latch(off: usize, bytes: &[u8]) -> [u8; PAGE]
     requires { off < page }
     ensures { result ≡ tabulate page (λ j. last_sent off bytes.now j 255) }
 {
-    let mut buf = [255u8; 256];
+    let mut buf = [255u8; PAGE];
     for (i, &byte) in bytes.iter().enumerate() {
         buf[(off + i) % PAGE] = byte;
     }
@@ -53,6 +55,7 @@ fn latch(off: usize, bytes: &[u8]) -> [u8; 256]
 }
 
 // Each byte of s becomes old AND new.
+// Kept by index: after `s.iter_mut().zip(bytes)` the library tells nothing of the elements, and the proof did not close.
 fn and_in(s: &mut [u8], bytes: &[u8])
     requires { length s.old ≡ length bytes.now }
     ensures { s.new ≡ tabulate (length s.old) (λ j. bit_and (get_or s.old j 0) (get_or bytes.now j 0)) }

@@ -38,6 +38,7 @@ fn data_of(b: &[u8]) -> &[u8]
 }
 
 // The array after a write.
+// Kept: the array's length in a `requires` of two functions; over a `Chip` they would promise what becomes of its other fields too.
 fn write(part: u32, array: &mut [u8], b: &[u8], w: Write)
     requires { length array.old ≡ (part_of part).size }
     ensures { array.new ≡ array_written (part_of part) array.old b.now (address_of (part_of part) b.now) w }

@@ -33,6 +33,7 @@ pub fn transaction(
     Ok(())
 }
 
+// Kept beside `refusals::opened`: there 2 stands between 1 and 3.
 #[tactic(auto, using(lists::proofs::Choice::choices, std::proofs::lemmas::Bool::Decides::nat_tests), unfolding(rules::specs::Refusals::event_refusal))]
 pub fn event(part: u32, kept: Kept) -> Result<(), Refusal>
     ensures { result ≡ event_refusal part kept }

@@ -7,7 +7,6 @@ ghost use Rattle.job.specs.Counted.{page_limit, Short, Billable, Counted, decode
 use crate::decode;
 use rules::{Bill, COMMAND_LENGTH, PAGE, STEP_LENGTH, Span, Step};
 
-// Kept, may not change: a type that holds `Short` would ask more of callers, and no other function here asks it.
 pub fn pages_touched(span: Span) -> usize
     requires { Short span }
     ensures { (result ≡ pages_touched span.address span.length) × (result ≤ page_limit) }

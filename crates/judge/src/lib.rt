@@ -21,7 +21,7 @@ pub struct Transaction<'a> {
 }
 
 // ---- where a write reaches
-// Kept: start and length are two definitions of the rules, and job asks for either alone; a pair would be made to be taken apart.
+// Kept two and two: each is a definition of the rules with the same arms, and must-fail addressed_byte_alone bends a line of either; a pair has two results in each arm.
 
 pub fn unit_start(unit: EraseUnit, address: usize) -> usize
     ensures { result ≡ unit_start unit address }
@@ -78,8 +78,9 @@ pub fn first_protected(part: u32, setting: u8, start: usize, count: usize) -> Op
 
 // ---- the tests, each by itself
 
+// Kept two: each is a test of document 01 with a definition of its own.
+// Kept side by side, part and registers here and /WP below: a `Chip` holds the first two, and stands in a crate above.
 #[tactic(auto, using(lists::proofs::Choice::choices), unfolding(rules::specs::Verdict::unheard_asleep))]
-// Kept two, here and with registers and /WP side by side: each test is a verdict's, and a definition of the rules.
 fn is_unheard_asleep(part: u32, r: Regs, op: u8) -> bool
     ensures { result ≡ unheard_asleep (part_of part) r op }
 {

@@ -73,12 +73,6 @@ opened part al kept w e =
     let e3 = passed (not (well_formed (part_of part) kept)) NotWellFormed _ e2.1 in
     (record { known = not-false _ e1.0; long = eqb-true _ _ (not-false _ e2.0); formed = not-false _ e3.0 }, e3.1)
 
--- .. as code asks them: `is` and `ok` are what its calls answer
-pub opened_by : (part al : ℕ) (kept : Kept) (is : Bool) (size : ℕ) (ok : Bool) → is ≡ is_part part → not is ≡ false → size ≡ (part_of part).size → al ≡ size
-    → ok ≡ well_formed (part_of part) kept → not ok ≡ false → Opened part al kept
-opened_by part al kept is size ok a b c d e f =
-    record { known = sym a ∙ not-false is b; long = d ∙ c; formed = sym e ∙ not-false ok f }
-
 pub past_three : (part al : ℕ) (kept : Kept) (w : Checked) → Opened part al kept → first_three part al kept w ≡ w
 unfolding if◌then◌otherwise◌
 past_three part al kept w o = rw (o.known, eq-eqb al (part_of part).size o.long, o.formed)

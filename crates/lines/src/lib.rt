@@ -45,7 +45,8 @@ fn digits3(n: usize) -> [u8; 3]
 fn digits4(n: usize) -> [u8; 4]
     ensures { result ≡ digits4 n }
 {
-    [digit(n / 1000), digit(n / 100), digit(n / 10), digit(n)]
+    let [hundreds, tens, ones] = digits3(n);
+    [digit(n / 1000), hundreds, tens, ones]
 }
 
 // Upper case.
@@ -105,6 +106,7 @@ pub fn record_line(tape: &[u8], place: usize, found: Result<Option<Record>, Faul
 }
 
 // The line of a fault.
+// Kept numbers: a `Refusal` would ask more of callers, and the promise is for any two.
 #[tactic(auto, unfolding(rules::specs::Listing::refused_line))]
 pub fn refused_line(number: u8, index: usize) -> Line
     ensures { result.items ≡ refused_line number index }

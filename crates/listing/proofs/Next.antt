@@ -31,7 +31,7 @@ next_fits t n b h =
     omega (arith, h.long, ap length h.is, length-append h.before (b ++ h.after), length-append b h.after, listing_short t)
 
 -- the line of record p
-pub record_next : (t : List ℕ) (p n : ℕ) (b : List ℕ) → Come t p n → p < records t → b ≡ record_line t p → Next (listing_of t) n b
+record_next : (t : List ℕ) (p n : ℕ) (b : List ℕ) → Come t p n → p < records t → b ≡ record_line t p → Next (listing_of t) n b
 record_next t p n b come h e = record {
   before = lines_from t 0 p;
   after = lines_from t (suc p) (records t - suc p);

@@ -58,7 +58,7 @@ fn list(tape: &[u8]) -> Result<usize, WriteFailed>
     }
 }
 
-// One byte more than a tape may have, so that a longer one is seen. With both lines, each of 16 bytes and its length, one of them an Option, 65,529 bytes: within 64 KiB.
+// One byte more than a tape may have, so that a longer one is seen. With the line that `record_line` answers, 32 bytes, and the line taken out of it, 24, 65,529 bytes: within 64 KiB.
 // Kept: an array and how much of it was read; a Vec is on the heap, and an ArrayVec is filled from a second array.
 fn main() {
     let mut tape = [0u8; LISTING_LIMIT + 1];

@@ -3,4 +3,3 @@ pub mod Tabulate
 pub mod Patched
 pub mod Search
 pub mod Lent
-pub mod Sums

@@ -6,7 +6,7 @@ use Prim.Native.Nat.{ℕ, ◌+◌, ◌-◌, ◌≤◌, ◌<◌}
 use native.Mathlib.Omega.{arith}
 use lib.Dec.{leb, ltb}
 use lib.ListN.{length, get_or, take, drop, length-append, length-take, length-drop, get_or-append}
-use lib.Seq.{get_or-append-add, get_or-take, get_or-drop, length-take-le, take_all}
+use lib.Seq.{get_or-append-add, get_or-take, get_or-drop, length-take-le}
 use borrow.Author.Tests.{lt-ltb, le-leb, lt-leb, leb-true, leb-false, ltb-true, ltb-false}
 use borrow.Rule.Slice.PartMut.{put_mid, mid_of, Post-is, mid_len}
 use Rattle.lists.specs.Choice.{if◌then◌otherwise◌, ◌<?◌, ◌≤?◌}
@@ -104,7 +104,3 @@ put_patched xs ys a n f h e =
 
 pub part_long : (xs : List ℕ) (a n : ℕ) → a + n ≤ length xs → length (mid_of a (a + n - a) xs) ≡ n
 part_long xs a n h = mid_len a (a + n) xs (omega arith) ∙ omega arith
-
--- a part to the end is what is left after a drop
-pub tail_is : (a : ℕ) (l : List ℕ) → take (length l - a) (drop a l) ≡ drop a l
-tail_is a l = take_all (length l - a) (drop a l) (omega (arith, length-drop a l))

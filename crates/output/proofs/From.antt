@@ -69,10 +69,6 @@ from_same n k f g h = tab_same n (from_place k f) (from_place k g) (λ j l. by (
     by true e = e
     by false e = refl
 
--- a callee was handed v, which is w
-pub driven_by : (f : ℕ → ℕ → ℕ) (n k v w : ℕ) (s : List ℕ) → s ≡ tabulate n (from_place k (f v)) → v ≡ w → s ≡ tabulate n (from_place k (f w))
-driven_by f n k v w s e h = e ∙ ap (λ (x : ℕ). tabulate n (from_place k (f x))) h
-
 -- maker and device in turn, by the lowest address bit
 pub even_turn : (p : Part) (b : List ℕ) (maker device n : ℕ) → maker ≡ p.maker → device ≡ p.device → get_or b 3 0 % 2 ≡ 0
     → tabulate n (from_place 4 (in_turn maker device)) ≡ tabulate n (from_place 4 (maker_device p b))

@@ -10,7 +10,7 @@ ghost use Rattle.rules.specs.Transaction.{from_place, array_from, maker_device, 
 use rules::{Kind, Regs, Verdict};
 
 // Kept: the four that follow have one shape; a function over what drives the rest would need a contract over its closure, longer than they are.
-// Kept: the lengths of array and output stand in a `requires`: a type for both would be made for this one call.
+// Kept: the lengths of array and output in a `requires`, and part, registers and array side by side. `Chip`, whose type holds the array's length, stands in a crate above.
 
 // FF, and from place k on the byte v.
 fn byte_from(out: &mut [u8], k: usize, v: u8)

@@ -149,7 +149,8 @@ pub fn jedec(part: u32, place: usize) -> u8
 }
 
 // ---- a guard's bytes, the command first
-// Kept: three bytes and how many are sent, since there is no heap; and the setting's bound in a `requires`, since it is the part's.
+// Kept: three bytes and how many are sent. An ArrayVec would say both, but must-fail guard_of_three bends the end alone.
+// Kept: the setting's bound in a `requires`, since it is the part's.
 
 pub fn guard_bytes(part: u32, setting: u8) -> [u8; 3]
     requires { setting ≤ (part_of part).setting_limit }

@@ -15,6 +15,8 @@ use chip::Chip;
 use judge::Transaction;
 use rules::{Kept, Meter, Played, Record, Refusal, Regs, Sent};
 
+// Kept functions, here and `chip::turn`: an impl stands in its type's crate, and docs/ARCHITECTURE.md names `chip::turn`.
+
 // The transaction whose bytes lie in the tape after the record's four head bytes.
 fn play_sent(chip: &mut Chip<'_>, tape: &[u8], sent: Sent)
     requires { (sent.start + sent.length ≤ length tape.now) × Room chip.old.meter 1 }
@@ -32,7 +34,7 @@ fn play_sent(chip: &mut Chip<'_>, tape: &[u8], sent: Sent)
     );
 }
 
-// Kept: each of the two events makes its own promise.
+// Kept two: must-fail skips_finish bends the promise of `ended` alone; one over a closure would be longer than both.
 fn ended(chip: &mut Chip<'_>)
     ensures same { Same chip.old chip.new }
     ensures played { held chip.new ≡ state (finished chip.old.regs) chip.old.array.now chip.old.meter }
@@ -98,6 +100,8 @@ fn refusal_of(part: u32, al: usize, kept: Kept, m: Meter, tape: &[u8]) -> Result
 }
 
 // ---- the entries: any input
+
+// Kept side by side, as C hands them in: any are served or refused.
 
 // The first k records of the tape, or all if it has no more: the checks are those of the whole tape.
 pub fn replay_first(

@@ -59,7 +59,7 @@ unfoldable pub decoded_guard : List ℕ → ℕ → Option Step
 decoded_guard job a =
     if (get_or job (a + 1) 0 ≤? guard_limit) && zeros job (a + 4) 12 then Some (Guard (get_or job (a + 1) 0)) otherwise None
 
--- "byte 0 is the kind, bytes 2 and 3 are 0"; Bad is refusal 22
+-- "byte 0 is the kind, bytes 2 and 3 are 0"; None is refusal 22
 unfoldable pub decoded_at : List ℕ → ℕ → Option Step
 decoded_at job a =
     if not (zeros job (a + 2) 2) then None otherwise

@@ -17,7 +17,7 @@ use rules::{Fault, RECORD_LENGTH, Record, SENT_LIMIT, Sent};
 pub fn is_whole(tape: &[u8]) -> bool
     ensures { result ≡ whole tape.now }
 {
-    tape.len() % RECORD_LENGTH == 0
+    tape.len().is_multiple_of(RECORD_LENGTH)
 }
 
 pub fn record_count(tape: &[u8]) -> usize
@@ -73,6 +73,7 @@ fn is_good(bytes: &[u8; RECORD_LENGTH]) -> bool
 }
 
 // What a record says that 30 and 31 let pass.
+// Kept a match on the kind's byte: it is read here alone, of a record that is good.
 #[tactic(auto, using(crate::proofs::Chunks::chunk_byte, lists::proofs::Choice::choices, std::proofs::lemmas::Bool::Decides::nat_tests), unfolding(rules::specs::Reading::said_at))]
 pub fn said_at(tape: &[u8], place: usize) -> Record
     requires { place < records tape.now }
@@ -134,7 +135,7 @@ pub fn reading_at(tape: &[u8], place: usize) -> Reading
 {
     let found = read_at(tape, place);
     Reading {
-        found: found,
+        found,
         next: next_place(place, found),
     }
 }

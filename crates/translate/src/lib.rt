@@ -14,10 +14,13 @@ ghost use Rattle.translate.specs.Spliced.{spliced, Fits};
 ghost use Rattle.lists.specs.Width.{number_end};
 ghost use Rattle.rules.specs.Units.{page};
 
-use rules::{COMMAND_LENGTH, EraseUnit, PAGE, RECORD_LENGTH, Refusal, STEP_LENGTH, Span, Step};
+use rules::{
+    COMMAND_LENGTH, EraseUnit, PAGE, RECORD_LENGTH, Refusal, SENT_LIMIT, STEP_LENGTH, Span, Step,
+};
 
 // ---- the three records of a command
-// Kept: a slice of so many bytes. An array is had from a slice as an Option alone, whose None would need an arm that nothing reaches.
+// Kept: a slice of so many bytes. `first_chunk_mut` gives an Option, whose None would need an arm that nothing reaches; and of
+// `as_chunks_mut` and `chunks_exact_mut` no contract tells what the slice ends as.
 
 // 06, the command, finish.
 fn put_three(out: &mut [u8], b: &[u8])
@@ -40,12 +43,12 @@ fn addressed(op: u8, a: usize) -> [u8; 4]
 }
 
 // One page of a lay: the command, its address, the data.
-// Kept: a buffer, since a record is put from one piece, and there is no heap.
+// Kept: a buffer and its end, since a record is put from one piece. An ArrayVec would be filled by two calls that may refuse, and lent on as a slice all the same.
 fn put_program(out: &mut [u8], a: usize, data: &[u8])
     requires { (length out.old ≡ command_length) × (length «data».now ≤ page) }
     ensures { out.new ≡ encode (three_recs (0x02 ∷ address_bytes a ++ «data».now)) }
 {
-    let mut sent = [0u8; 260];
+    let mut sent = [0u8; SENT_LIMIT];
     let sent = &mut sent[..4 + data.len()];
     tape::put(sent, 0, &addressed(2, a));
     tape::put(sent, 4, data);
@@ -87,6 +90,7 @@ fn put_lay(out: &mut [u8], s: Span, payload: &[u8])
     for i in 0..job::bill::pages_touched(s) {
         let room = PAGE - a % PAGE;
         let (now, later) = data.split_at(room.min(data.len()));
+        // Kept: by an index, as said above.
         let at = COMMAND_LENGTH * i;
         put_program(&mut out[at..at + COMMAND_LENGTH], a, now);
         a += room;

@@ -11,7 +11,7 @@ use Rattle.rules.specs.declared.Record.TheVariants.{Transaction, Finish, PowerCy
 use Rattle.rules.specs.declared.Fault.TheVariants.{CutTape, BadRecord}
 use Rattle.rules.specs.declared.Sent.{Sent}
 use Rattle.rules.specs.Tape.{sent_limit, whole, records, kind_at, good_record}
-use Rattle.rules.specs.Reading.{AtPlace, sent_at, said_at, read_at, ReadTold, read_told, read_of}
+use Rattle.rules.specs.Reading.{AtPlace, sent_at, said_at, read_at, read_told, read_of}
 use Rattle.tape.proofs.Good.{good_short}
 use Rattle.tape.proofs.Said.{read_is}
 
@@ -39,10 +39,3 @@ read_short t p s e = go (whole t) (leb (records t) p) (good_record t p) (eqb (ki
 
 pub sent_short : (t : List ℕ) (p : ℕ) (s : Sent) → read_told p (Ok (Some (Transaction s))) ≡ read_of t p → s.length ≤ sent_limit
 sent_short t p s e = read_short t p s (read_is t p (Ok (Some (Transaction s))) e)
-
--- what is told of an answer, with the place after it as the code has it
-abbrev pub with_next : ReadTold → ℕ → ReadTold
-with_next w n = record { kind = w.kind; number = w.number; length = w.length; leftover = w.leftover; wp = w.wp; start = w.start; next = n }
-
-pub next-is : (w u : ReadTold) (n : ℕ) → w ≡ u → n ≡ u.next → with_next w n ≡ u
-next-is w u n e f = λ i. with_next (e i) (f i)

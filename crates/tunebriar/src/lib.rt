@@ -197,10 +197,10 @@ pub fn tb_read(tape: &[u8], place: u64) -> TbRecord
             kind: 0,
             number: 0,
             length: sent.length as u32,
-            leftover: sent.leftover as u32,
+            leftover: u32::from(sent.leftover),
             wp: u32::from(sent.high),
             start: sent.start as u64,
-            next: next,
+            next,
         },
         Ok(Some(Record::Finish)) => plain(1, 0, next),
         Ok(Some(Record::PowerCycle)) => plain(2, 0, next),
@@ -210,17 +210,18 @@ pub fn tb_read(tape: &[u8], place: u64) -> TbRecord
 }
 
 // An answer that is no transaction.
+// Kept a function, as the match above: `read_told` goes by the place that was asked, which a `Reading` does not hold.
 fn plain(kind: u32, number: u32, next: u64) -> TbRecord
     ensures { result ≡ tb_record (plain_told kind number next) }
 {
     TbRecord {
-        kind: kind,
-        number: number,
+        kind,
+        number,
         length: 0,
         leftover: 0,
         wp: 0,
         start: 0,
-        next: next,
+        next,
     }
 }
 
