@@ -12,10 +12,10 @@ ghost use Rattle.cells.specs.Page.{last_sent, programmed_at};
 use rules::PAGE;
 
 // ---- one value, or two in turn, at every place
-// Kept over the library's `fill` and `copy_from_slice`: the promise is by places, as the callers' proofs take it.
-// Kept loops of a line, `in_turn`, `and_in` and `output::jedec`: one over a closure has a contract longer than they are.
+// Kept three loops, `in_turn`, `and_in` and `output::jedec`: each stores something else. Over a closure each would keep its promise and its proof, and the one beside them would have a promise for every closure.
 
 // Each byte becomes v.
+// Kept over the library's `fill`: the promise is by places, as the callers' proofs take it.
 pub fn fill(bytes: &mut [u8], value: u8)
     ensures { bytes.new ≡ tabulate (length bytes.old) (λ j. value) }
 {
@@ -91,6 +91,7 @@ pub fn program_at(array: &mut [u8], address: usize, bytes: &[u8])
 // ---- copies
 
 // out becomes what from is.
+// Kept over the library's `copy_from_slice`: docs/PINNED.md names `copy` for must-fail first_byte_alone, for an array and a tape alike.
 pub fn copy(out: &mut [u8], from: &[u8])
     requires { length out.old ≡ length from.now }
     ensures { out.new ≡ from.now }

@@ -15,7 +15,7 @@ ghost use Rattle.rules.specs.Verdict.{address_of, verdict_of};
 ghost use Rattle.rules.specs.Transaction.{regs_done, regs_after, array_after};
 ghost use Rattle.rules.specs.Counts.{meter_after};
 ghost use Rattle.rules.specs.Transact.{transact_told, transact_seen, transact_of};
-ghost use Rattle.rules.specs.EventEntries.{event_told, finish_of, power_cycle_of};
+ghost use Rattle.rules.specs.EventEntries.{event_told, event_of, finish_of, power_cycle_of};
 ghost use Rattle.laws.specs.Room.{Room};
 
 // A chip with its meter, that is lent its array.
@@ -38,7 +38,7 @@ fn data_of(b: &[u8]) -> &[u8]
 }
 
 // The array after a write.
-// Kept: the array's length in a `requires` of two functions; over a `Chip` they would promise what becomes of its other fields too.
+// Kept: the array's length in a `requires` of two functions; over a `Chip` they would promise what becomes of its other fields too; `regs_written` and `regs_done`, by value, look at no array.
 fn write(part: u32, array: &mut [u8], b: &[u8], w: Write)
     requires { length array.old ≡ (part_of part).size }
     ensures { array.new ≡ array_written (part_of part) array.old b.now (address_of (part_of part) b.now) w }
@@ -166,20 +166,27 @@ pub fn transact(
     })
 }
 
-// Kept: two events of two lines each; one function over what an event makes of the registers would be longer, with its contract.
+// An event, by what it makes of the registers: whatever f `makes` works out, the answer is of f.
+fn event<F: FnOnce(Regs) -> Regs>(part: u32, kept: Kept, makes: F) -> Result<Kept, Refusal>
+    requires { F.IsAlwaysCallable makes }
+    ensures { (f : Regs → Regs) → ((r s : Regs) → F.post makes r s → s ≡ f r) → event_told kept result ≡ event_of part kept f }
+{
+    refuse::event(part, kept)?;
+    Ok(Kept::from(makes(Regs::from(kept))))
+}
 
 // A finish event.
+#[tactic(auto, unfolding(rules::specs::EventEntries::finish_of))]
 pub fn finish(part: u32, kept: Kept) -> Result<Kept, Refusal>
     ensures { event_told kept result ≡ finish_of part kept }
 {
-    refuse::event(part, kept)?;
-    Ok(Kept::from(regs::finished(Regs::from(kept))))
+    event(part, kept, regs::finished)
 }
 
 // A power cycle.
+#[tactic(auto, unfolding(rules::specs::EventEntries::power_cycle_of))]
 pub fn power_cycle(part: u32, kept: Kept) -> Result<Kept, Refusal>
     ensures { event_told kept result ≡ power_cycle_of part kept }
 {
-    refuse::event(part, kept)?;
-    Ok(Kept::from(regs::power_cycled(Regs::from(kept))))
+    event(part, kept, regs::power_cycled)
 }

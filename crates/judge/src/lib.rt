@@ -79,7 +79,7 @@ pub fn first_protected(part: u32, setting: u8, start: usize, count: usize) -> Op
 // ---- the tests, each by itself
 
 // Kept two: each is a test of document 01 with a definition of its own.
-// Kept side by side, part and registers here and /WP below: a `Chip` holds the first two, and stands in a crate above.
+// Kept side by side, part and registers here and /WP below: a `Chip` would ask for an array that no test looks at.
 #[tactic(auto, using(lists::proofs::Choice::choices), unfolding(rules::specs::Verdict::unheard_asleep))]
 fn is_unheard_asleep(part: u32, r: Regs, op: u8) -> bool
     ensures { result ≡ unheard_asleep (part_of part) r op }

@@ -60,7 +60,7 @@ fn fits_count(count: u32, n: usize) -> bool
     (count as usize).saturating_add(n) <= COUNT_LIMIT
 }
 
-// No count plus so many exceeds the limit; else refusal 7.
+// No count plus so many exceeds the limit; else refusal 7. Kept four calls: each asks another field.
 #[tactic(auto, unfolding(rules::specs::Counts::room))]
 pub fn has_room(meter: Meter, more: usize) -> bool
     ensures { result ≡ room meter more }

@@ -1,1 +1,1 @@
-pub mod From
+pub mod Rest

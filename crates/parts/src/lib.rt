@@ -14,7 +14,7 @@ ghost use Rattle.rules.specs.WellFormed.{word_formed, awake_formed, well_formed}
 ghost use Rattle.rules.specs.Job.{guard_limit};
 
 // A part that there is; any other number is refusal 1.
-// Kept a number, here and in all that is asked by part: C hands one in, and the public functions promise for any.
+// Kept a number, here and in all that is asked by part, with an operation code or without: C hands one in, and the public functions promise for any.
 pub fn is_part(part: u32) -> bool
     ensures { result ≡ is_part part }
 {

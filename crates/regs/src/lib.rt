@@ -27,7 +27,7 @@ pub fn high_byte(regs: Regs) -> u8
 }
 
 // ---- one register set
-// Kept seven: each sets another field, in one line, and is a definition of the rules.
+// Kept seven: each sets another field, is a definition of the rules, and is what `chip` or `parts` calls; must-fail sets_nothing bends one of them.
 
 pub fn with_busy(regs: Regs, on: bool) -> Regs
     ensures { result ≡ with_busy regs on }

@@ -205,6 +205,7 @@ pub enum Record {
 }
 
 // Why a tape cannot be read at a place, by document 01's number.
+// Kept beside `Refusal`'s two cases: a read at a place tells no index.
 #[derive(Clone, Copy)]
 pub enum Fault {
     CutTape = 30,

@@ -1,4 +1,5 @@
 // A tape's records: read at a place, checked, written. The place is a number first; the reader stands above.
+// Kept side by side, tape and place, here and in `replay`, `lines` and `listing`: document 01, "What to write where", asks for a core by number under the reader.
 #![tactic(auto)]
 
 ghost use Rattle.std.specs.Prelude.{◌≡◌, ◌++◌, ◌+◌, ◌*◌, ◌≤◌, ◌<◌, ◌^◌, length, take, drop};
@@ -51,7 +52,7 @@ fn all_zero(s: &[u8]) -> bool
 fn sent_length(bytes: &[u8; RECORD_LENGTH]) -> usize
     ensures { (result ≡ length_at bytes.now 0) × (result < 65536) }
 {
-    u16::from_be_bytes([bytes[0], bytes[1]]) as usize
+    usize::from(u16::from_be_bytes([bytes[0], bytes[1]]))
 }
 
 // Four head bytes that 31 lets pass.
