@@ -106,8 +106,8 @@ locked-out-is r high WriteStatus = (λ e q. (locked-is r high).0 e, λ h. (locke
 -- ---- both ways
 
 module _ (p : Part) (r : Regs) (b : List ℕ) (x : ℕ) (high : Bool) (k : Kind) where
-  passes : Allowed p r b x high k → Passed p r b x high k
-  passes h =
+  allowed_passed : Allowed p r b x high k → Passed p r b x high k
+  allowed_passed h =
       let op = get_or b 0 0 in
       record {
         not_empty = h.not_empty;
@@ -145,7 +145,7 @@ module _ (p : Part) (r : Regs) (b : List ℕ) (x : ℕ) (high : Bool) (k : Kind)
 
   pub allowed_is_carried_out : (l : List ℕ) → Allowed p r b x high k → Effect p r l b k (turn_of p r l b x high)
   allowed_is_carried_out l h =
-      rw (turn_is p r l b x high (CarriedOut k) (passed_carried p r b x high k (passes h)))
+      rw (turn_is p r l b x high (CarriedOut k) (passed_carried p r b x high k (allowed_passed h)))
       (record { verdict = refl; regs = refl; array = refl; out = refl })
 
 -- ---- and so for a caller of the entry
@@ -170,7 +170,7 @@ module _ (part : ℕ) (kept : Kept) (m : Meter) (l o b : List ℕ) (x wp : ℕ) 
   pub allowed_is_carried_out_lent : (k : Kind) → Taken part (length l) kept (length b) x (length o) m → Allowed (part_of part) r b x (is_high wp) k
       → EffectLent part kept m l o b k (transact_of part kept m l o b x wp)
   allowed_is_carried_out_lent k c h =
-      let e = passed_carried (part_of part) r b x (is_high wp) k (passes (part_of part) r b x (is_high wp) k h) in
+      let e = passed_carried (part_of part) r b x (is_high wp) k (allowed_passed (part_of part) r b x (is_high wp) k h) in
       subst (EffectLent part kept m l o b k)
       (transact_served_lem part kept m l o b x wp (CarriedOut k) (not_refused part (length l) kept (length b) x (length o) m c) (sym e))
       (record { served = refl; number = refl; code = refl; index = refl; regs = refl; meter = refl; array = refl; out = refl })

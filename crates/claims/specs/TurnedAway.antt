@@ -1,6 +1,6 @@
 -- When a job is turned away: document 01's table, one case a line. "Translating checks 1, 20, 21, then each step in order for
 -- 22 to 25, then 26. A refusal returns its number and the first bad record's index (for 22 to 25 ..; else 0)."
-use Rattle.std.specs.Prelude.{◌≡◌, true, false, List, Ok, Err, ◌⊎◌, ℕ, ◌+◌, ◌*◌, ◌/◌, ◌%◌, ◌≤◌, ◌<◌, length, get_or}
+use Rattle.std.specs.Prelude.{◌≡◌, true, false, List, IsErrAnd, ◌⊎◌, ℕ, ◌+◌, ◌*◌, ◌/◌, ◌%◌, ◌≤◌, ◌<◌, length, get_or}
 use Rattle.rules.specs.declared.EraseUnit.{EraseUnit}
 use Rattle.rules.specs.declared.EraseUnit.TheVariants.{Sector, Block32, Block64, Chip}
 use Rattle.rules.specs.declared.Step.{Step}
@@ -16,8 +16,7 @@ use Rattle.job.specs.Carried.{setting_at}
 
 -- what is checked is refused, with number n at index i
 abbrev pub Refuses : Checked → ℕ → ℕ → Type 0
-Refuses (Ok u) n i = ⊥
-Refuses (Err z) n i = (number_of z ≡ n) × (index_of z ≡ i)
+Refuses c n i = IsErrAnd c (λ z. (number_of z ≡ n) × (index_of z ≡ i))
 
 -- ---- what the 16 bytes from place a of a job on say
 

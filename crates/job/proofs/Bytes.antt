@@ -13,11 +13,11 @@ use Rattle.lists.specs.Places.{every_in}
 use Rattle.rules.specs.Job.{number4, zeros, decoded_erase, decoded_lay, decoded_guard, decoded_at}
 
 -- n bytes of s from place i on, and of a job from place b on
-Same : (s job : List ℕ) (i b n : ℕ) → Type 0
-Same s job i b n = (k : ℕ) → k < n → get_or s (i + k) 0 ≡ get_or job (b + k) 0
+Alike : (s job : List ℕ) (i b n : ℕ) → Type 0
+Alike s job i b n = (k : ℕ) → k < n → get_or s (i + k) 0 ≡ get_or job (b + k) 0
 
-same_zeros : (s job : List ℕ) (i b n : ℕ) → Same s job i b n → zeros s i n ≡ zeros job b n
-unfolding every_in Same
+same_zeros : (s job : List ℕ) (i b n : ℕ) → Alike s job i b n → zeros s i n ≡ zeros job b n
+unfolding every_in Alike
 same_zeros s job i b zero h = refl
 same_zeros s job i b (suc n) h =
     let ih = same_zeros s job (suc i) (suc b) n
@@ -27,16 +27,16 @@ same_zeros s job i b (suc n) h =
     let z = rw (add-zero i, add-zero b) at (h 0 (omega arith)) in
     rw (z, ih)
 
-same_number : (s job : List ℕ) (i b : ℕ) → Same s job i b 4 → number4 s i ≡ number4 job b
-unfolding Same
+same_number : (s job : List ℕ) (i b : ℕ) → Alike s job i b 4 → number4 s i ≡ number4 job b
+unfolding Alike
 same_number s job i b h =
     let z = rw (add-zero i, add-zero b) at (h 0 (omega arith)) in
     rw (z, h 1 (omega arith), h 2 (omega arith), h 3 (omega arith))
 
 pub same_step : (s job : List ℕ) (a : ℕ) → ((k : ℕ) → k < 16 → get_or s k 0 ≡ get_or job (a + k) 0) → decoded_at s 0 ≡ decoded_at job a
-unfolding decoded_at decoded_erase decoded_lay decoded_guard Same
+unfolding decoded_at decoded_erase decoded_lay decoded_guard Alike
 same_step s job a h =
-    let part : (i n : ℕ) → i + n ≤ 16 → Same s job i (a + i) n = λ i n l k m. (let e : (a + i) + k ≡ a + (i + k) = omega arith in rw e (h (i + k) (omega arith))) in
+    let part : (i n : ℕ) → i + n ≤ 16 → Alike s job i (a + i) n = λ i n l k m. (let e : (a + i) + k ≡ a + (i + k) = omega arith in rw e (h (i + k) (omega arith))) in
     let b0 = rw (add-zero a) at (h 0 (omega arith)) in
     rw (
       b0,

@@ -1,6 +1,6 @@
 -- What the absence of a refusal says, entry by entry; and what a served call answers.
 use Rattle.std.specs.Prelude.{Ok, Err, is_ok}
-use mathlib.Core.Path.{◌≡◌, refl, sym, ap, ◌∙◌}
+use mathlib.Core.Path.{◌≡◌, refl, sym, ap}
 use mathlib.Core.Bool.{Bool, true, false, not, ◌&&◌}
 use Prim.Native.Nat.{ℕ, ◌+◌, ◌≤◌}
 use native.Mathlib.Omega.{arith}
@@ -16,7 +16,7 @@ use Rattle.rules.specs.Counts.{count_limit, room}
 use Rattle.rules.specs.declared.Refusal.TheVariants.{UnknownPart, ArrayLength, NotWellFormed, LongTransaction, LeftoverBits, ShortOutput, MeterFull}
 use Rattle.rules.specs.Refusals.{Checked, passes, refused, ◌or_else◌, transaction_limit, transact_refusal}
 use Rattle.laws.specs.Room.{Room}
-use Rattle.laws.specs.Opened.{opened_refusal}
+use Rattle.laws.specs.Opened.{opened_then, opened_refusal}
 
 -- what is refused does not pass
 pub refused_not : (z : Refusal) → refused z ≡ passes → ⊥
@@ -53,27 +53,19 @@ room_had m n r = rw (le-leb _ _ r.programs_fit, le-leb _ _ r.erases_fit, le-leb 
 
 -- ---- 1, 2 and 3, which an entry that is lent an array asks first
 
--- .. and then w
-abbrev first_three : ℕ → ℕ → Kept → Checked → Checked
-first_three part al kept w =
-    if not (is_part part) then refused UnknownPart otherwise
-    if not (al =? (part_of part).size) then refused ArrayLength otherwise
-    if not (well_formed (part_of part) kept) then refused NotWellFormed otherwise
-    w
-
 pub record Opened (part al : ℕ) (kept : Kept) : Type 0 where
   pub known : is_part part ≡ true
   pub long : al ≡ (part_of part).size
   pub formed : well_formed (part_of part) kept ≡ true
 
-pub opened : (part al : ℕ) (kept : Kept) (w : Checked) → first_three part al kept w ≡ passes → Opened part al kept × (w ≡ passes)
+pub opened : (part al : ℕ) (kept : Kept) (w : Checked) → opened_then part al kept w ≡ passes → Opened part al kept × (w ≡ passes)
 opened part al kept w e =
     let e1 = passed (not (is_part part)) UnknownPart _ e in
     let e2 = passed (not (al =? (part_of part).size)) ArrayLength _ e1.1 in
     let e3 = passed (not (well_formed (part_of part) kept)) NotWellFormed _ e2.1 in
     (record { known = not-false _ e1.0; long = eqb-true _ _ (not-false _ e2.0); formed = not-false _ e3.0 }, e3.1)
 
-pub past_three : (part al : ℕ) (kept : Kept) (w : Checked) → Opened part al kept → first_three part al kept w ≡ w
+pub past_three : (part al : ℕ) (kept : Kept) (w : Checked) → Opened part al kept → opened_then part al kept w ≡ w
 unfolding if◌then◌otherwise◌
 past_three part al kept w o = rw (o.known, eq-eqb al (part_of part).size o.long, o.formed)
 
@@ -86,11 +78,11 @@ stops false true u x y v w z e = e
 stops false false true x y v w z e = e
 stops false false false x y v w z e = absurd (refused_not z (sym e))
 
-pub opened_stops : (part al : ℕ) (kept : Kept) (w : Checked) (z : Refusal) → opened_refusal part al kept ≡ refused z → first_three part al kept w ≡ refused z
+pub opened_stops : (part al : ℕ) (kept : Kept) (w : Checked) (z : Refusal) → opened_refusal part al kept ≡ refused z → opened_then part al kept w ≡ refused z
 unfolding opened_refusal
 opened_stops part al kept w z = stops (not (is_part part)) (not (al =? (part_of part).size)) (not (well_formed (part_of part) kept)) UnknownPart ArrayLength NotWellFormed w z
 
-pub opened_goes : (part al : ℕ) (kept : Kept) (w : Checked) → opened_refusal part al kept ≡ passes → first_three part al kept w ≡ w
+pub opened_goes : (part al : ℕ) (kept : Kept) (w : Checked) → opened_refusal part al kept ≡ passes → opened_then part al kept w ≡ w
 unfolding opened_refusal
 opened_goes part al kept w e = past_three part al kept w (opened part al kept passes e).0
 

@@ -1,5 +1,5 @@
 -- The pieces of the verdict, put together: the one equation that lets code judge by steps.
-use Rattle.std.specs.Prelude.{Option, Some, None}
+use Rattle.std.specs.Prelude.{Option, Some, None, is_some}
 use mathlib.Core.Path.{◌≡◌, refl, ap}
 use mathlib.Core.Bool.{Bool, not}
 use mathlib.Core.List.{List}
@@ -14,7 +14,7 @@ use Rattle.rules.specs.declared.Reason.TheVariants.{Busy, Asleep, NoCommand, Mis
 use Rattle.rules.specs.declared.Verdict.TheVariants.{CarriedOut, Ignored}
 use Rattle.rules.specs.Kinds.{of_write, of_known}
 use Rattle.rules.specs.Part.{Part, command_of, shaped}
-use Rattle.rules.specs.Protection.{first_protected, was_found, some_protected}
+use Rattle.rules.specs.Protection.{first_protected, some_protected}
 use Rattle.rules.specs.Writes.{reach_start, reach_length, locked_out}
 use Rattle.rules.specs.Verdict.{address_of, is_unknown, not_enabled, status_locked, touches_protected, carried_out, unheard_asleep, unheard_busy, verdict_of}
 use Rattle.laws.specs.Judged.{protection_verdict, write_verdict, kind_verdict, judge_of}
@@ -30,7 +30,7 @@ from_unknown p r fit high a c =
     carried_out c
 
 -- .. of a found byte or none
-by_found : (k : Kind) (f : Option ℕ) → (if was_found f then Ignored Protected otherwise CarriedOut k) ≡ protection_verdict k f
+by_found : (k : Kind) (f : Option ℕ) → (if is_some f then Ignored Protected otherwise CarriedOut k) ≡ protection_verdict k f
 unfolding if◌then◌otherwise◌
 by_found k (Some x) = refl
 by_found k None = refl

@@ -1,5 +1,5 @@
 -- The lines of a tape without a fault: which record each is, how long they are, and what is left after some.
-use Rattle.std.specs.Prelude.{Option, Some, None, Ok, Err}
+use Rattle.std.specs.Prelude.{Option, Some, None, Ok, Err, is_ok}
 use mathlib.Core.Path.{◌≡◌, refl, sym, ap, ◌∙◌}
 use mathlib.Core.Bool.{Bool, true, false, true≢false, not, ◌||◌}
 use mathlib.Core.List.{List, [], ◌∷◌, ◌++◌, append_assoc}
@@ -14,7 +14,7 @@ use Rattle.rules.specs.declared.Refusal.{Refusal}
 use Rattle.rules.specs.declared.Refusal.TheVariants.{CutTape}
 use Rattle.rules.specs.declared.Record.TheVariants.{Transaction, Finish, PowerCycle}
 use Rattle.rules.specs.Listing.{listing_limit, digits3, digits4, hex2, space, line_feed, record_text, record_line, lines_from, refused_line, listing_of}
-use Rattle.rules.specs.Refusals.{number_of, index_of, Checked, passes, refused, accepted, answered}
+use Rattle.rules.specs.Refusals.{number_of, index_of, Checked, passes, refused, answered}
 use Rattle.rules.specs.Replay.{bad_record}
 use Rattle.rules.specs.Tape.{records, whole, good_record, first_bad}
 use Rattle.rules.specs.Reading.{AtPlace, read_at, next_place, read_of, said_at}
@@ -33,10 +33,10 @@ pub record Listable (t : List ℕ) : Type 0 where
 
 pub listable : (t : List ℕ) → fault_of t ≡ passes → Listable t
 unfolding fault_of if◌then◌otherwise◌
-listable t e = go (listing_limit <? length t) (whole t) (first_bad t) refl refl refl (ap accepted e)
+listable t e = go (listing_limit <? length t) (whole t) (first_bad t) refl refl refl (ap is_ok e)
   where
     go : (a w : Bool) (f : Option ℕ) → (listing_limit <? length t) ≡ a → whole t ≡ w → first_bad t ≡ f
-        → accepted (if a || not w then refused CutTape otherwise bad_record f) ≡ true → Listable t
+        → is_ok (if a || not w then refused CutTape otherwise bad_record f) ≡ true → Listable t
     go true w f h k g e = absurd (true≢false (sym e))
     go false false f h k g e = absurd (true≢false (sym e))
     go false true (Some i) h k g e = absurd (true≢false (sym e))

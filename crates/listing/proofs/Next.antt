@@ -1,5 +1,4 @@
 -- What comes next in the listing: the line of the record that the reader is at, or the one line of a fault.
-use Rattle.rules.specs.Refusals as R
 use mathlib.Core.Path.{◌≡◌, refl, sym, ap, ◌∙◌}
 use mathlib.Core.Bool.{Bool, true, false}
 use mathlib.Core.List.{List, [], ◌++◌, append-nil}
@@ -10,7 +9,7 @@ use lib.ListN.{length, length-append}
 use borrow.Author.Tests.{ltb-true, ltb-false}
 use Rattle.rules.specs.declared.Refusal.{Refusal}
 use Rattle.rules.specs.Listing.{record_line, lines_from, refused_line, listing_of}
-use Rattle.rules.specs.Refusals.{number_of, index_of}
+use Rattle.rules.specs.Refusals.{number_of, index_of, passes, refused}
 use Rattle.rules.specs.Tape.{records}
 use Rattle.rules.specs.Reading.{AtPlace, read_at, read_told, read_of}
 use Rattle.tape.proofs.Said.{read_is}
@@ -20,8 +19,8 @@ use Rattle.lines.proofs.Lines.{listable, next-there, line_there, line_past, line
 use Rattle.listing.specs.Handed.{Next, Come}
 
 -- the listing of a tape with a fault
-pub refused : (t : List ℕ) (z : Refusal) → R.refused z ≡ fault_of t → listing_of t ≡ refused_line (number_of z) (index_of z)
-refused t z e = listing_refused t z (sym e)
+fault_listed : (t : List ℕ) (z : Refusal) → refused z ≡ fault_of t → listing_of t ≡ refused_line (number_of z) (index_of z)
+fault_listed t z e = listing_refused t z (sym e)
 
 -- ---- some bytes of the listing
 
@@ -40,19 +39,19 @@ record_next t p n b come h e = record {
 }
 
 -- the one line of a fault
-pub fault_next : (t : List ℕ) (z : Refusal) (b : List ℕ) → R.refused z ≡ fault_of t → b ≡ refused_line (number_of z) (index_of z) → Next (listing_of t) 0 b
+pub fault_next : (t : List ℕ) (z : Refusal) (b : List ℕ) → refused z ≡ fault_of t → b ≡ refused_line (number_of z) (index_of z) → Next (listing_of t) 0 b
 fault_next t z b e k = record {
   before = [];
   after = [];
   long = refl;
-  is = refused t z e ∙ sym k ∙ sym (append-nil b);
+  is = fault_listed t z e ∙ sym k ∙ sym (append-nil b);
 }
 
-pub fault_long : (t : List ℕ) (z : Refusal) (b : List ℕ) → R.refused z ≡ fault_of t → b ≡ refused_line (number_of z) (index_of z) → length b ≡ length (listing_of t)
-fault_long t z b e k = ap length (k ∙ sym (refused t z e))
+pub fault_long : (t : List ℕ) (z : Refusal) (b : List ℕ) → refused z ≡ fault_of t → b ≡ refused_line (number_of z) (index_of z) → length b ≡ length (listing_of t)
+fault_long t z b e k = ap length (k ∙ sym (fault_listed t z e))
 
 -- of a tape without one, no line is before record 0
-pub begins : (t : List ℕ) → R.passes ≡ fault_of t → Come t 0 0
+pub begins : (t : List ℕ) → passes ≡ fault_of t → Come t 0 0
 unfolding lines_from
 begins t e = record { sound = sym e; within = omega arith; long = refl }
 

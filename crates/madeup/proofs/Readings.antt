@@ -1,5 +1,5 @@
 -- What the rules make of each row is what the row expects.
-use Rattle.std.specs.Prelude.{Ok, Err}
+use Rattle.std.specs.Prelude.{Ok, Err, is_some}
 use mathlib.Core.Path.{◌≡◌, refl, ap}
 use mathlib.Core.Bool.{false, ◌&&◌}
 use mathlib.Core.List.{[], ◌∷◌, map}
@@ -17,7 +17,7 @@ use Rattle.lists.proofs.Search.{overlap}
 use Rattle.rules.specs.Part.{Part, takes, leaves, row_in, row_of}
 use Rattle.rules.specs.Status.{regs_of, status_of, kept_of}
 use Rattle.rules.specs.WellFormed.{word_formed, awake_formed, well_formed}
-use Rattle.rules.specs.Protection.{is_protected, was_found, some_protected}
+use Rattle.rules.specs.Protection.{is_protected, some_protected}
 use Rattle.rules.specs.Writes.{locked}
 use Rattle.rules.specs.Verdict.{address_of, unheard_asleep, unheard_busy, verdict_of, verdict_told}
 use Rattle.rules.specs.Transaction.{from_place, driven_at}
@@ -36,9 +36,9 @@ awake_at w = record { status = w; awake = 1 }
 abbrev verdict_number : Reading → ℕ
 verdict_number e = (verdict_told (verdict_of madeup (regs_of (awake_at e.status)) e.bytes 0 false)).number
 
-some_overlap : (p : Part) (s a n : ℕ) → some_protected p s a n ≡ was_found (overlap (p.lo s) (p.hi s) a n)
+some_overlap : (p : Part) (s a n : ℕ) → some_protected p s a n ≡ is_some (overlap (p.lo s) (p.hi s) a n)
 unfolding some_protected
-some_overlap p s a n = ap was_found (first_protected_lem p s a n)
+some_overlap p s a n = ap is_some (first_protected_lem p s a n)
 
 -- the area is asked at its ends, so that no byte of a stretch is counted
 pub verdicts_are_the_rows : map verdict_number readings ≡ map (λ (e : Reading). e.number) readings
@@ -50,14 +50,14 @@ unfolding words madeup word_formed awake_formed well_formed
 words_are_the_rows = refl
 
 -- number and index of a refusal; where there is none, 0 and 0
-abbrev told : Checked → ℕ × ℕ
-told (Ok u) = (0, 0)
-told (Err z) = (number_of z, index_of z)
+abbrev number_and_index : Checked → ℕ × ℕ
+number_and_index (Ok u) = (0, 0)
+number_and_index (Err z) = (number_of z, index_of z)
 
 abbrev refusal_of : Job → Checked
 refusal_of e = steps_refusal madeup e.setting 4 e.job 0 (step_count e.job)
 
-pub refusals_are_the_rows : map (λ (e : Job). told (refusal_of e)) jobs ≡ map (λ (e : Job). (e.number, e.index)) jobs
+pub refusals_are_the_rows : map (λ (e : Job). number_and_index (refusal_of e)) jobs ≡ map (λ (e : Job). (e.number, e.index)) jobs
 unfolding jobs madeup mu_erases mu_lo mu_hi steps_refusal step_refusal ◌or_else◌ decoded_at decoded_erase decoded_lay decoded_guard unit_by every_in if◌then◌otherwise◌
 refusals_are_the_rows = simp first_protected_lem
 

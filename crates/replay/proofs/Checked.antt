@@ -27,14 +27,14 @@ none_bad : (f : Option ℕ) → bad_record f ≡ passes → f ≡ None
 none_bad (Some i) e = absurd (refused_not (BadRecord i) e)
 none_bad None e = refl
 
-pub record Checked (part al : ℕ) (m : Meter) (t : List ℕ) : Type 0 where
+pub record Replayable (part al : ℕ) (m : Meter) (t : List ℕ) : Type 0 where
   pub long : al ≡ (part_of part).size
   pub playable : Playable t (records t)
   pub room : Room m (records t)
 
-pub checked : (part al : ℕ) (kept : Kept) (m : Meter) (t : List ℕ) → replay_refusal part al kept m t ≡ passes → Checked part al m t
+pub replayable : (part al : ℕ) (kept : Kept) (m : Meter) (t : List ℕ) → replay_refusal part al kept m t ≡ passes → Replayable part al m t
 unfolding replay_refusal records_refusal first_bad
-checked part al kept m t e =
+replayable part al kept m t e =
     let o = opened part al kept _ e in
     let e4 = passed (not (whole t)) CutTape _ o.1 in
     let e5 = neither (bad_record (first_bad t)) _ e4.1 in
@@ -47,7 +47,7 @@ checked part al kept m t e =
     }
 
 -- fewer records are playable, and have room
-pub fewer : (part al : ℕ) (m : Meter) (t : List ℕ) (k : ℕ) → Checked part al m t → Playable t (min k (records t)) × Room m (min k (records t))
+pub fewer : (part al : ℕ) (m : Meter) (t : List ℕ) (k : ℕ) → Replayable part al m t → Playable t (min k (records t)) × Room m (min k (records t))
 fewer part al m t k h =
     let r = h.room in
     (record { there = omega arith; good = λ p q. h.playable.good p (omega arith) }, omega arith)

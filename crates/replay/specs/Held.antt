@@ -3,8 +3,8 @@ use Rattle.std.specs.Prelude.{◌≡◌}
 use Rattle.chip.specs.declared.Chip.{Chip}
 use Rattle.rules.specs.Play.{State, state}
 
-abbrev pub held : Chip → State
-held c = state c.regs c.array.now c.meter
+abbrev pub state_of : Chip → State
+state_of c = state c.regs c.array.now c.meter
 
 pub record Same (c d : Chip) : Type 0 where
   pub part : d.part ≡ c.part

@@ -9,7 +9,7 @@ ghost use Rattle.rules.specs.Play.{state, play_rec, play};
 ghost use Rattle.rules.specs.Replay.{records_refusal, replay_refusal, replay_told, replay_seen, replay_first_of, replay_of};
 ghost use Rattle.laws.specs.Room.{Room};
 ghost use Rattle.replay.specs.Playable.{Playable};
-ghost use Rattle.replay.specs.Held.{Same, held};
+ghost use Rattle.replay.specs.Held.{Same, state_of};
 
 use chip::Chip;
 use judge::Transaction;
@@ -21,7 +21,7 @@ use rules::{Kept, Meter, Played, Record, Refusal, Regs, Sent};
 fn play_sent(chip: &mut Chip<'_>, tape: &[u8], sent: Sent)
     requires { (sent.start + sent.length ≤ length tape.now) × Room chip.old.meter 1 }
     ensures same { Same chip.old chip.new }
-    ensures played { held chip.new ≡ play_rec (part_of chip.old.part) (transaction (take sent.length (drop sent.start tape.now)) sent.leftover sent.high) (held chip.old) }
+    ensures played { state_of chip.new ≡ play_rec (part_of chip.old.part) (transaction (take sent.length (drop sent.start tape.now)) sent.leftover sent.high) (state_of chip.old) }
 {
     let bytes = &tape[sent.start..sent.start + sent.length];
     chip::turn(
@@ -37,14 +37,14 @@ fn play_sent(chip: &mut Chip<'_>, tape: &[u8], sent: Sent)
 // Kept two: must-fail skips_finish bends the promise of `ended` alone; one over a closure would be longer than both.
 fn ended(chip: &mut Chip<'_>)
     ensures same { Same chip.old chip.new }
-    ensures played { held chip.new ≡ state (finished chip.old.regs) chip.old.array.now chip.old.meter }
+    ensures played { state_of chip.new ≡ state (finished chip.old.regs) chip.old.array.now chip.old.meter }
 {
     chip.regs = regs::finished(chip.regs);
 }
 
 fn cycled(chip: &mut Chip<'_>)
     ensures same { Same chip.old chip.new }
-    ensures played { held chip.new ≡ state (power_cycled chip.old.regs) chip.old.array.now chip.old.meter }
+    ensures played { state_of chip.new ≡ state (power_cycled chip.old.regs) chip.old.array.now chip.old.meter }
 {
     chip.regs = regs::power_cycled(chip.regs);
 }
@@ -53,7 +53,7 @@ fn cycled(chip: &mut Chip<'_>)
 fn play_at(chip: &mut Chip<'_>, tape: &[u8], p: usize)
     requires { Playable tape.now (p + 1) × Room chip.old.meter 1 }
     ensures same { Same chip.old chip.new }
-    ensures played { held chip.new ≡ play_rec (part_of chip.old.part) (rec_at tape.now p) (held chip.old) }
+    ensures played { state_of chip.new ≡ play_rec (part_of chip.old.part) (rec_at tape.now p) (state_of chip.old) }
 {
     match tape::said_at(tape, p) {
         Record::Transaction(sent) => play_sent(chip, tape, sent),
@@ -67,7 +67,7 @@ fn play_at(chip: &mut Chip<'_>, tape: &[u8], p: usize)
 fn play_first(chip: &mut Chip<'_>, tape: &[u8], count: usize)
     requires { Playable tape.now count × Room chip.old.meter count }
     ensures same { Same chip.old chip.new }
-    ensures played { held chip.new ≡ play (part_of chip.old.part) (recs_from tape.now 0 count) (held chip.old) }
+    ensures played { state_of chip.new ≡ play (part_of chip.old.part) (recs_from tape.now 0 count) (state_of chip.old) }
 {
     for p in 0..count {
         play_at(chip, tape, p);

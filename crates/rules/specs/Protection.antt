@@ -1,5 +1,5 @@
 -- Which bytes a setting protects. Document 01, "Status bits and protection".
-use Rattle.std.specs.Prelude.{ℕ, Bool, true, false, ◌&&◌, Option, Some, None}
+use Rattle.std.specs.Prelude.{ℕ, Bool, ◌&&◌, Option, is_some}
 use Rattle.lists.specs.Choice.{◌<?◌, ◌≤?◌}
 use Rattle.lists.specs.Places.{first_in}
 use Rattle.rules.specs.Part.{Part}
@@ -12,10 +12,6 @@ is_protected p s x = (p.lo s ≤? x) && (x <? p.hi s)
 unfoldable pub first_protected : Part → ℕ → ℕ → ℕ → Option ℕ
 first_protected p s a n = first_in (is_protected p s) a n
 
-abbrev pub was_found : Option ℕ → Bool
-was_found (Some x) = true
-was_found None = false
-
 -- some byte of the n from a on is protected
 unfoldable pub some_protected : Part → ℕ → ℕ → ℕ → Bool
-some_protected p s a n = was_found (first_protected p s a n)
+some_protected p s a n = is_some (first_protected p s a n)

@@ -1,5 +1,5 @@
 -- When we turn a caller away: the checks of a transaction, and those that the two events share. Document 01's table, and the order beneath it.
-use Rattle.std.specs.Prelude.{ℕ, Bool, not, Result, Ok, Err, is_ok, ⊤}
+use Rattle.std.specs.Prelude.{ℕ, not, Result, Ok, Err, ⊤}
 use Rattle.lists.specs.Choice.{if◌then◌otherwise◌, ◌=?◌, ◌<?◌}
 use Rattle.rules.specs.declared.Kept.{Kept}
 use Rattle.rules.specs.declared.Meter.{Meter}
@@ -56,9 +56,6 @@ passes = Ok tt
 
 abbrev pub refused : Refusal → Checked
 refused z = Err z
-
-abbrev pub accepted : Checked → Bool
-accepted z = is_ok z
 
 infixr 5 ◌or_else◌
 -- the first refusal, and where there is none the second

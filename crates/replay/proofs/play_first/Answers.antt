@@ -1,5 +1,5 @@
 use Rattle.replay.proofs.Steps.{record_room, play_more}
-use Rattle.replay.specs.Held.{held}
+use Rattle.replay.specs.Held.{state_of}
 use Rattle.laws.specs.Room.{Room}
 use Rattle.rules.specs.Play.{State}
 use Rattle.rules.specs.Parts.{part_of}
@@ -17,6 +17,6 @@ loop-p-preserved c =
     let e = c.play_at.ensures in
     let room : Room l.chip.meter (suc n) = let r = i.1 in omega arith in (
       record { part = e.same.part ∙ i.0.part; lent = e.same.lent ∙ i.0.lent },
-      subst (λ (m : Meter). Room m n) (sym (ap (λ (s : State). s.meter) e.played)) (record_room (part_of l.chip.part) _ (held l.chip) _ room),
+      subst (λ (m : Meter). Room m n) (sym (ap (λ (s : State). s.meter) e.played)) (record_room (part_of l.chip.part) _ (state_of l.chip) _ room),
       grind (arith, play_more),
     )

@@ -2,9 +2,9 @@ use Rattle.std.specs.Prelude.{Result, Ok, Err}
 use mathlib.Core.Path.{◌≡◌}
 use native.Mathlib.Omega.{arith}
 use Rattle.replay.proofs.Steps.{take_recs}
-use Rattle.replay.proofs.Checked.{checked, fewer, replay_served_lem, replay_refused_lem}
+use Rattle.replay.proofs.Checked.{replayable, fewer, replay_served_lem, replay_refused_lem}
 use Rattle.replay.specs.Playable.{Playable}
-use Rattle.replay.specs.Held.{held}
+use Rattle.replay.specs.Held.{state_of}
 use Rattle.laws.specs.Room.{Room}
 use Rattle.rules.specs.Replay.{replay_told, replay_seen, replay_first_of}
 use Rattle.rules.specs.Play.{state, play}
@@ -29,13 +29,13 @@ returns-in_err-refusal_of c =
 pub invariant_of-chip : goal.invariant_of-chip
 invariant_of-chip c =
     let a = c.args in
-    let h = checked a.part (length a.array.now) a.kept a.meter a.tape.now (sym c.in_ok-refusal_of.ensures) in
+    let h = replayable a.part (length a.array.now) a.kept a.meter a.tape.now (sym c.in_ok-refusal_of.ensures) in
     record { sized = h.long }
 
 pub play_first-requires : goal.play_first-requires
 play_first-requires c =
     let a = c.args in
-    let h = checked a.part (length a.array.now) a.kept a.meter a.tape.now (sym c.in_ok-refusal_of.ensures) in
+    let h = replayable a.part (length a.array.now) a.kept a.meter a.tape.now (sym c.in_ok-refusal_of.ensures) in
     let n = c.min-count.ensures ∙ ap (λ (w : ℕ). min a.k w) c.record_count.ensures in
     let f = fewer a.part (length a.array.now) a.meter a.tape.now a.k h in
     (subst (λ (w : ℕ). Playable a.tape.now w) (sym n) f.0, subst (λ (w : ℕ). Room a.meter w) (sym n) f.1)
@@ -53,5 +53,5 @@ returns c =
     ∙ ap (λ (r : Regs). play p (take a.k (recs_from a.tape.now 0 (records a.tape.now))) (state r a.array.now a.meter)) c.from.ensures in
     let left : (x : List ℕ) → x ≡ s.array.now → replay_seen (replay_told a.kept a.meter (Ok (record { regs = c.from-2.result; meter = s.meter }))) x ≡ replay_first_of a.part a.kept a.meter a.array.now a.tape.now a.k = λ x q.
     (λ i. replay_seen (replay_told a.kept a.meter (Ok (record { regs = c.from-2.ensures i; meter = s.meter }))) (q i))
-    ∙ replay_served_lem a.part a.kept a.meter a.array.now a.tape.now a.k (held s) (sym c.in_ok-refusal_of.ensures) e in
+    ∙ replay_served_lem a.part a.kept a.meter a.array.now a.tape.now a.k (state_of s) (sym c.in_ok-refusal_of.ensures) e in
     left _ (grind arith)
