@@ -91,12 +91,14 @@ pub fn program_at(array: &mut [u8], address: usize, bytes: &[u8])
 // ---- copies
 
 // out becomes what from is.
-// Kept over the library's `copy_from_slice`: docs/PINNED.md names `copy` for must-fail first_byte_alone, for an array and a tape alike.
+// Kept a loop: the library's `copy_from_slice` asks `memmove` of who links the C library, which nothing else here does.
 pub fn copy(out: &mut [u8], from: &[u8])
     requires { length out.old ≡ length from.now }
     ensures { out.new ≡ from.now }
 {
-    out.copy_from_slice(from);
+    for (i, byte) in out.iter_mut().enumerate() {
+        *byte = from[i];
+    }
 }
 
 // out becomes the array's bytes from a on; after the array's last comes its first.

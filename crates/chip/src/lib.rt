@@ -158,7 +158,7 @@ pub fn transact(
     let n = bytes.len();
     // The array back first: of what a chip holds, only a variable can be lent on.
     let array = chip.array;
-    output::show(&mut out[..n], part, regs, array, bytes, verdict);
+    output::show(&mut out[..n], part, regs, array, bytes, verdict.kind());
     Ok(Served {
         verdict,
         regs: Kept::from(chip.regs),

@@ -1,23 +1,18 @@
 -- Document 01, "How tightly an answer is pinned", of the meter by itself, and of the reader of a tape, which is brought up
 -- to date where it lies. No second answer fits, and no other contents.
-use Rattle.std.specs.Prelude.{Result, Ok, Err}
-use mathlib.Core.Path.{◌≡◌, refl, sym, ap, ◌∙◌}
+use Rattle.std.specs.Prelude.{Result}
+use mathlib.Core.Path.{◌≡◌, sym, ◌∙◌}
 use mathlib.Core.List.{List}
-use Prim.Native.Nat.{ℕ, ◌≤◌}
-use native.Mathlib.Omega.{arith}
-use lib.Dec.{lit≤}
+use Prim.Native.Nat.{ℕ}
 use denote.Ref.{Bor}
 use Rattle.rules.specs.declared.Meter.{Meter}
 use Rattle.rules.specs.declared.Refusal.{Refusal}
-use Rattle.rules.specs.declared.Refusal.TheVariants.{UnknownPart, ArrayLength, NotWellFormed, LongTransaction, LeftoverBits, ShortOutput, MeterFull, UnfitJob, StartSetting, StepUnsaid, StepOutside, StepBeyond, StepProtected, SmallBuffer, CutTape, BadRecord}
-use Rattle.rules.specs.Refusals.{number_of, index_of}
-use Rattle.rules.specs.CountEntry.{Metered, metered, count_told, count_of}
+use Rattle.rules.specs.CountEntry.{count_told, count_of}
 use Rattle.rules.specs.Reading.{AtPlace, read_told, read_of}
-use Rattle.rules.proofs.Apart.{refusals_apart, some_number}
+use Rattle.rules.proofs.Apart.{counted_apart}
 use Rattle.tape.specs.declared.Reading.{Reading}
 use Rattle.tape.specs.declared.Reader.{Reader}
 use Rattle.tape.specs.Moves.{told, found, after}
-use Rattle.lists.proofs.Choice.{by_choice}
 use Rattle.claims.proofs.Unique.{read_unique}
 use Rattle.claims.proofs.UniqueC.{same}
 
@@ -27,45 +22,9 @@ both_same v w t u x y p q = (same v t u p.0 q.0, same w x y p.1 q.1)
 
 -- ---- the meter by itself
 
--- a refusal with 1 to 7 has no index, so its number alone tells it
-few_index : (z : Refusal) → number_of z ≤ 7 → index_of z ≡ 0
-few_index UnknownPart h = refl
-few_index ArrayLength h = refl
-few_index NotWellFormed h = refl
-few_index LongTransaction h = refl
-few_index LeftoverBits h = refl
-few_index ShortOutput h = refl
-few_index MeterFull h = refl
-few_index UnfitJob h = refl
-few_index StartSetting h = refl
-few_index (StepUnsaid i) h = absurd (omega arith)
-few_index (StepOutside i) h = absurd (omega arith)
-few_index (StepBeyond i) h = absurd (omega arith)
-few_index (StepProtected i) h = absurd (omega arith)
-few_index SmallBuffer h = refl
-few_index CutTape h = refl
-few_index (BadRecord i) h = absurd (omega arith)
-
--- the refusals of the entry are 1 and 7
-few_told : (part : ℕ) (m : Meter) (number op : ℕ) → (count_of part m number op).number ≤ 7
-unfolding count_of
-few_told part m number op =
-    let c = by_choice (λ (t : Metered). t.number ≤ 7) in
-    c _ (metered 1 m) _ (lit≤ tt) (c _ (metered 7 m) (metered 0 _) (lit≤ tt) (lit≤ tt))
-
--- what is told alike, with a number up to 7, is the same
-few_apart : (m : Meter) (t u : Result Meter Refusal) → (count_told m t).number ≤ 7 → count_told m t ≡ count_told m u → t ≡ u
-few_apart m (Ok a) (Ok b) h e = ap (λ (k : Metered). Ok k.meter) e
-few_apart m (Ok a) (Err y) h e = absurd (some_number y (sym (ap (λ (k : Metered). k.number) e)))
-few_apart m (Err z) (Ok b) h e = absurd (some_number z (ap (λ (k : Metered). k.number) e))
-few_apart m (Err z) (Err y) h e =
-    let n : number_of z ≡ number_of y = ap (λ (k : Metered). k.number) e in
-    ap Err (refusals_apart z y n (few_index z h ∙ sym (few_index y (omega arith))))
-
 pub count_unique : (part : ℕ) (m : Meter) (number op : ℕ) (t u : Result Meter Refusal)
     → count_told m t ≡ count_of part m number op → count_told m u ≡ count_of part m number op → t ≡ u
-count_unique part m number op t u p q =
-    few_apart m t u (omega (arith, few_told part m number op, ap (λ (k : Metered). k.number) p)) (p ∙ sym q)
+count_unique part m number op t u p q = counted_apart m t u (p ∙ sym q)
 
 -- ---- the reader: the caller's bytes that it keeps hold of, and its place
 

@@ -8,7 +8,8 @@ use mathlib.Core.List.{List}
 use Prim.Native.Nat.{ℕ, zero, suc, ◌+◌, ◌<◌, ◌≤◌}
 use native.Mathlib.Nat.{add-zero, eq-or-lt_of_le}
 use native.Mathlib.Omega.{arith}
-use lib.ListN.{get_or}
+use lib.ListN.{get_or, drop}
+use lib.Seq.{get_or-drop}
 use Rattle.lists.specs.Places.{every_in}
 use Rattle.rules.specs.Job.{number4, zeros, decoded_erase, decoded_lay, decoded_guard, decoded_at}
 
@@ -33,7 +34,7 @@ same_number s job i b h =
     let z = rw (add-zero i, add-zero b) at (h 0 (omega arith)) in
     rw (z, h 1 (omega arith), h 2 (omega arith), h 3 (omega arith))
 
-pub same_step : (s job : List ℕ) (a : ℕ) → ((k : ℕ) → k < 16 → get_or s k 0 ≡ get_or job (a + k) 0) → decoded_at s 0 ≡ decoded_at job a
+same_step : (s job : List ℕ) (a : ℕ) → ((k : ℕ) → k < 16 → get_or s k 0 ≡ get_or job (a + k) 0) → decoded_at s 0 ≡ decoded_at job a
 unfolding decoded_at decoded_erase decoded_lay decoded_guard Alike
 same_step s job a h =
     let part : (i n : ℕ) → i + n ≤ 16 → Alike s job i (a + i) n = λ i n l k m. (let e : (a + i) + k ≡ a + (i + k) = omega arith in rw e (h (i + k) (omega arith))) in
@@ -48,6 +49,10 @@ same_step s job a h =
       same_number s job 8 (a + 8) (part 8 4 (omega arith)),
       same_number s job 12 (a + 12) (part 12 4 (omega arith)),
     )
+
+-- bytes that are those from a place on of what is left of a job there
+pub same_left : (s job : List ℕ) (a : ℕ) → ((k : ℕ) → k < 16 → get_or s k 0 ≡ get_or (drop a job) k 0) → decoded_at s 0 ≡ decoded_at job a
+same_left s job a h = same_step s job a (λ k l. h k l ∙ get_or-drop a job k 0)
 
 -- what `from_fn` made of n places from i on, by calls that leave the closure as it was
 pub made : {F : Type 0} {g : Mut F (ℕ × Unit {0}) ℕ} (w : ℕ → ℕ) (f : F) (ys : List ℕ) (i n : ℕ)

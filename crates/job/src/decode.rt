@@ -1,5 +1,5 @@
 // What 16 bytes of a job say.
-ghost use Rattle.std.specs.Prelude.{◌≡◌, ◌<◌};
+ghost use Rattle.std.specs.Prelude.{◌≡◌, ◌<◌, drop};
 ghost use Rattle.lists.specs.Width.{number_end};
 ghost use Rattle.rules.specs.Job.{number4, decoded_at, step_at};
 
@@ -35,11 +35,22 @@ fn decoded(step: [u8; STEP_LENGTH]) -> Option<Step>
     }
 }
 
+// What is left of a job from a place on.
+fn left_at(job: &[u8], at: usize) -> &[u8]
+    ensures { result.now ≡ drop at job.now }
+{
+    job.get(at..).unwrap_or(&[])
+}
+
 // Step i of a job; no job that is looked at has so many steps that 16 * i would wrap.
 pub fn step_at(job: &[u8], index: usize) -> Option<Step>
     requires { index < number_end }
     ensures { result ≡ step_at job.now index }
 {
-    let at = STEP_LENGTH * index;
-    decoded(array::from_fn(|k| lists::byte_at(job, at + k)))
+    let left = left_at(job, STEP_LENGTH * index);
+    match left.first_chunk() {
+        Some(step) => decoded(*step),
+        // Past the job's end a byte is 0.
+        None => decoded(array::from_fn(|k| lists::byte_at(left, k))),
+    }
 }

@@ -10,7 +10,7 @@ ghost use Rattle.lines.specs.Fault.{fault_of};
 ghost use Rattle.lines.specs.Line.{line_of};
 
 use arrayvec::ArrayVec;
-use rules::{Fault, LISTING_LIMIT, Record, Refusal, Sent};
+use rules::{LISTING_LIMIT, Record, Refusal, Sent};
 
 // Room for any record's line, and for a fault's.
 pub const LINE_WIDTH: usize = 16;
@@ -86,8 +86,12 @@ fn append_transaction(line: &mut Line, tape: &[u8], sent: Sent)
     append(line, &digits3(sent.length));
 }
 
-// The line of what a read of the tape at a place found: the record's index, and what it says. The end and a fault have none.
-pub fn record_line(tape: &[u8], place: usize, found: Result<Option<Record>, Fault>) -> Option<Line>
+// The line of what a read of the tape at a place found: the record's index, and what it says. The end and a fault, of any type, have none.
+pub fn record_line<E: Copy>(
+    tape: &[u8],
+    place: usize,
+    found: Result<Option<Record>, E>,
+) -> Option<Line>
     ensures { MatchOption result (line_of tape.now place found ≡ []) (λ line. (line.items ≡ line_of tape.now place found) × (0 < length line.items)) }
 {
     let Ok(Some(said)) = found else {

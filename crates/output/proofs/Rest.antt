@@ -16,9 +16,12 @@ use Rattle.rules.specs.Part.{Part}
 use Rattle.rules.specs.declared.Regs.{Regs}
 use Rattle.rules.specs.declared.Kind.{Kind}
 use Rattle.rules.specs.declared.Kind.TheVariants.{WriteEnable, WriteDisable, ReadStatusLow, ReadStatusHigh, Read, FastRead, Sleep, Wake, ReadMakerDevice, ReadJedec, Writes}
-use Rattle.rules.specs.Transaction.{from_place, maker_device, driven_at}
+use Rattle.rules.specs.declared.Verdict.{Verdict}
+use Rattle.rules.specs.declared.Verdict.TheVariants.{CarriedOut, Ignored}
+use Rattle.rules.specs.Verdict.{kind_of}
+use Rattle.rules.specs.Transaction.{from_place, maker_device, driven_at, out_at}
 use Rattle.cells.specs.InTurn.{in_turn}
-use Rattle.output.specs.Rest.{first_place, rest_at}
+use Rattle.output.specs.Rest.{first_place, rest_at, shown_at}
 
 -- before its place nothing is driven
 below_place : (k : ℕ) (f : ℕ → ℕ) (i : ℕ) → i < k → from_place k f i ≡ 0xFF
@@ -81,6 +84,11 @@ driven p r l b k n m o before rest e q c d =
     let s : o ≡ n - m = omega arith in
     from_rest n (first_place k) m (rest_at p r l b k) before rest c e (q ∙ ap (λ (i : ℕ). tabulate i (rest_at p r l b k)) s)
     ∙ tab_same n _ (driven_at p r l b k) (λ i h. rest_driven p r l b k i)
+
+-- what is shown by what a verdict carries out is what the verdict shows
+pub shown_out : (p : Part) (r : Regs) (l b : List ℕ) (v : Verdict) (n : ℕ) → tabulate n (shown_at p r l b (kind_of v)) ≡ tabulate n (out_at p r l b v)
+shown_out p r l b (CarriedOut k) n = refl
+shown_out p r l b (Ignored w) n = refl
 
 -- maker and device in turn, by the lowest address bit
 pub even_turn : (p : Part) (b : List ℕ) (maker device n : ℕ) → maker ≡ p.maker → device ≡ p.device → get_or b 3 0 % 2 ≡ 0

@@ -1,11 +1,11 @@
 -- What a command drives, in two: FF up to its first place, and the rest from there on.
-use Rattle.std.specs.Prelude.{ℕ, List}
+use Rattle.std.specs.Prelude.{ℕ, List, Option, Some, None}
 use Rattle.rules.specs.declared.Regs.{Regs}
 use Rattle.rules.specs.declared.Kind.{Kind}
 use Rattle.rules.specs.declared.Kind.TheVariants.{WriteEnable, WriteDisable, ReadStatusLow, ReadStatusHigh, Read, FastRead, Sleep, Wake, ReadMakerDevice, ReadJedec, Writes}
 use Rattle.rules.specs.Part.{Part}
 use Rattle.rules.specs.Status.{low_byte, high_byte}
-use Rattle.rules.specs.Transaction.{array_from, maker_device}
+use Rattle.rules.specs.Transaction.{array_from, maker_device, driven_at}
 use Rattle.rules.specs.Verdict.{address_of}
 
 abbrev pub first_place : Kind → ℕ
@@ -20,6 +20,11 @@ first_place Wake = 4
 first_place ReadMakerDevice = 4
 first_place ReadJedec = 1
 first_place (Writes w) = 0
+
+-- the byte that is driven at place i, by what is carried out: where nothing is, only FF
+abbrev pub shown_at : Part → Regs → List ℕ → List ℕ → Option Kind → ℕ → ℕ
+shown_at p r l b (Some k) i = driven_at p r l b k i
+shown_at p r l b None i = 0xFF
 
 -- the byte that is driven j places after the first
 abbrev pub rest_at : Part → Regs → List ℕ → List ℕ → Kind → ℕ → ℕ

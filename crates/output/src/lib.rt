@@ -5,10 +5,10 @@ ghost use Rattle.std.specs.Prelude.{◌≡◌, ◌≤◌, length};
 ghost use Prim.Native.Nat.{min};
 ghost use Rattle.lists.specs.Places.{tabulate};
 ghost use Rattle.rules.specs.Parts.{part_of};
-ghost use Rattle.rules.specs.Transaction.{maker_device, driven_at, out_at};
-ghost use Rattle.output.specs.Rest.{first_place, rest_at};
+ghost use Rattle.rules.specs.Transaction.{maker_device, driven_at};
+ghost use Rattle.output.specs.Rest.{first_place, rest_at, shown_at};
 
-use rules::{Kind, Regs, Verdict};
+use rules::{Kind, Regs};
 
 // Kept: the lengths of array and output in a `requires`; part, registers, array, bytes and output side by side. What is driven goes by the registers before the turn, and a `Chip` holds those after it.
 
@@ -77,13 +77,20 @@ fn drive(out: &mut [u8], part: u32, r: Regs, array: &[u8], b: &[u8], k: Kind)
     drive_rest(rest, part, r, array, b, k);
 }
 
-// An ignored command drives only FF.
-pub fn show(out: &mut [u8], part: u32, regs: Regs, array: &[u8], bytes: &[u8], verdict: Verdict)
+// An ignored command drives only FF, whatever the reason: none is asked.
+pub fn show(
+    out: &mut [u8],
+    part: u32,
+    regs: Regs,
+    array: &[u8],
+    bytes: &[u8],
+    carried_out: Option<Kind>,
+)
     requires { (length array.now ≡ (part_of part).size) × (length out.old ≤ (part_of part).size) }
-    ensures { out.new ≡ tabulate (length out.old) (out_at (part_of part) regs array.now bytes.now verdict) }
+    ensures { out.new ≡ tabulate (length out.old) (shown_at (part_of part) regs array.now bytes.now carried_out) }
 {
-    match verdict {
-        Verdict::CarriedOut(kind) => drive(out, part, regs, array, bytes, kind),
-        Verdict::Ignored(_) => cells::fill(out, 255),
+    match carried_out {
+        Some(kind) => drive(out, part, regs, array, bytes, kind),
+        None => cells::fill(out, 255),
     }
 }

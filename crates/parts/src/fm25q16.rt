@@ -34,36 +34,36 @@ const SEC1: [usize; 8] = [0, 4096, 8192, 16384, 32768, 32768, 2097152, 2097152];
 pub fn row_of(op: u8) -> Option<Row>
     ensures { result ≡ row_in fm_commands op }
 {
-    Some(match op {
-        0x06 => exactly(0x06, Kind::WriteEnable, 1),
-        0x04 => exactly(0x04, Kind::WriteDisable, 1),
-        0x05 => or_more(0x05, Kind::ReadStatusLow, 1),
-        0x35 => or_more(0x35, Kind::ReadStatusHigh, 1),
-        0x01 => line(
+    match op {
+        0x06 => Some(exactly(0x06, Kind::WriteEnable, 1)),
+        0x04 => Some(exactly(0x04, Kind::WriteDisable, 1)),
+        0x05 => Some(or_more(0x05, Kind::ReadStatusLow, 1)),
+        0x35 => Some(or_more(0x35, Kind::ReadStatusHigh, 1)),
+        0x01 => Some(line(
             0x01,
             Kind::Writes(Write::WriteStatus),
             Bytes::Either(2, 3),
             Leftover::NoBits,
-        ),
-        0x03 => or_more(0x03, Kind::Read, 4),
-        0x0B => or_more(0x0B, Kind::FastRead, 5),
-        0x02 => line(
+        )),
+        0x03 => Some(or_more(0x03, Kind::Read, 4)),
+        0x0B => Some(or_more(0x0B, Kind::FastRead, 5)),
+        0x02 => Some(line(
             0x02,
             Kind::Writes(Write::Program),
             Bytes::OrMore(5),
             Leftover::NoBits,
-        ),
-        0x20 => exactly(0x20, Kind::Writes(Write::Erase(EraseUnit::Sector)), 4),
-        0x52 => exactly(0x52, Kind::Writes(Write::Erase(EraseUnit::Block32)), 4),
-        0xD8 => exactly(0xD8, Kind::Writes(Write::Erase(EraseUnit::Block64)), 4),
-        0xC7 => exactly(0xC7, Kind::Writes(Write::Erase(EraseUnit::Chip)), 1),
-        0x60 => exactly(0x60, Kind::Writes(Write::Erase(EraseUnit::Chip)), 1),
-        0xB9 => exactly(0xB9, Kind::Sleep, 1),
-        0xAB => or_more(0xAB, Kind::Wake, 1),
-        0x90 => or_more(0x90, Kind::ReadMakerDevice, 4),
-        0x9F => or_more(0x9F, Kind::ReadJedec, 1),
-        _ => return None,
-    })
+        )),
+        0x20 => Some(exactly(0x20, Kind::Writes(Write::Erase(EraseUnit::Sector)), 4)),
+        0x52 => Some(exactly(0x52, Kind::Writes(Write::Erase(EraseUnit::Block32)), 4)),
+        0xD8 => Some(exactly(0xD8, Kind::Writes(Write::Erase(EraseUnit::Block64)), 4)),
+        0xC7 => Some(exactly(0xC7, Kind::Writes(Write::Erase(EraseUnit::Chip)), 1)),
+        0x60 => Some(exactly(0x60, Kind::Writes(Write::Erase(EraseUnit::Chip)), 1)),
+        0xB9 => Some(exactly(0xB9, Kind::Sleep, 1)),
+        0xAB => Some(or_more(0xAB, Kind::Wake, 1)),
+        0x90 => Some(or_more(0x90, Kind::ReadMakerDevice, 4)),
+        0x9F => Some(or_more(0x9F, Kind::ReadJedec, 1)),
+        _ => None,
+    }
 }
 
 pub fn heard_asleep(op: u8) -> bool

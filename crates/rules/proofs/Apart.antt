@@ -32,6 +32,7 @@ use Rattle.rules.specs.Verdict.{reason_number, VerdictTold, verdict_told}
 use Rattle.rules.specs.Refusals.{number_of, index_of}
 use Rattle.rules.specs.Transact.{AnswerTold, transact_told}
 use Rattle.rules.specs.EventEntries.{EventTold, event_told}
+use Rattle.rules.specs.CountEntry.{Metered, count_told}
 use Rattle.rules.specs.Replay.{replay_told}
 use Rattle.rules.specs.Reading.{AtPlace, fault_number, ReadTold, read_told}
 use Rattle.rules.specs.Translate.{TapeTold, translate_told, BillTold, quote_told}
@@ -236,6 +237,17 @@ quoted_back_lem (Err z) = ap Err (refusal_back_lem z)
 
 pub quoted_apart : (a b : Result Bill Refusal) → quote_told a ≡ quote_told b → a ≡ b
 quoted_apart = apart quote_told quoted_back quoted_back_lem
+
+counted_back : Metered → Result Meter Refusal
+counted_back t = if t.number =? 0 then Ok t.meter otherwise Err (refusal_back t.number t.index)
+
+counted_back_lem : (m : Meter) (a : Result Meter Refusal) → counted_back (count_told m a) ≡ a
+unfolding counted_back if◌then◌otherwise◌
+counted_back_lem m (Ok after) = refl
+counted_back_lem m (Err z) = rw (ne_eqb (number_of z) 0 (some_number z)) (ap Err (refusal_back_lem z))
+
+pub counted_apart : (m : Meter) (a b : Result Meter Refusal) → count_told m a ≡ count_told m b → a ≡ b
+counted_apart m = apart (count_told m) counted_back (counted_back_lem m)
 
 -- ---- a read at place p
 

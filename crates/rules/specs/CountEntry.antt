@@ -8,7 +8,7 @@ use Rattle.rules.specs.declared.Verdict.TheVariants.{CarriedOut}
 use Rattle.rules.specs.Kinds.{of_known}
 use Rattle.rules.specs.Part.{Part, command_of}
 use Rattle.rules.specs.Parts.{is_part, part_of}
-use Rattle.rules.specs.Refusals.{number_of}
+use Rattle.rules.specs.Refusals.{number_of, index_of}
 use Rattle.rules.specs.Counts.{ignored_counted, meter_after, room}
 
 -- the meter after a transaction of first byte op that answered with a number: 0 is carried out, 10 to 16 ignored, and any
@@ -19,18 +19,20 @@ meter_by_answer p meter number op =
     if (10 ≤? number) && (number ≤? 16) then ignored_counted meter otherwise
     meter
 
--- a number, and the meter then
+-- a number with its index, and the meter then
 pub record Metered : Type 0 where
   pub number : ℕ
+  pub index : ℕ
   pub meter : Meter
 
+-- .. of a number that has no index
 abbrev pub metered : (number : ℕ) (meter : Meter) → Metered
-metered number meter = record { number = number; meter = meter }
+metered number meter = record { number = number; index = 0; meter = meter }
 
 -- the paper's number and values of an answer: 0 and the new meter, or a refusal, and then the meter stays
 abbrev pub count_told : (meter : Meter) → Result Meter Refusal → Metered
 count_told meter (Ok m) = metered 0 m
-count_told meter (Err z) = metered (number_of z) meter
+count_told meter (Err z) = record { number = number_of z; index = index_of z; meter = meter }
 
 -- refused with 1 or 7
 unfoldable pub count_of : (part : ℕ) (meter : Meter) (number op : ℕ) → Metered

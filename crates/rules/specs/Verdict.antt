@@ -82,7 +82,14 @@ verdict_of p r b x high =
     if touches_protected p r (address_of p b) c then Ignored Protected otherwise
     carried_out c
 
--- ---- the paper's number and values: 0 and the kind's code, or the number of an ignored command and no code
+-- ---- what a verdict tells
+
+-- the kind that is carried out
+abbrev pub kind_of : Verdict → Option Kind
+kind_of (CarriedOut k) = Some k
+kind_of (Ignored w) = None
+
+-- the paper's number and values: 0 and the kind's code, or the number of an ignored command and no code
 
 pub record VerdictTold : Type 0 where
   pub number : ℕ

@@ -1,10 +1,10 @@
 // Document 01's numbers of what is refused, ignored or carried out, as a caller is told them.
 ghost use Rattle.std.specs.Prelude.{◌≡◌};
 ghost use Rattle.rules.specs.Refusals.{number_of, index_of};
-ghost use Rattle.rules.specs.Verdict.{reason_number, verdict_told};
+ghost use Rattle.rules.specs.Verdict.{reason_number, kind_of, verdict_told};
 ghost use Rattle.rules.specs.Reading.{fault_number};
 
-use crate::{Fault, Reason, Refusal, Verdict};
+use crate::{Fault, Kind, Reason, Refusal, Verdict};
 
 impl Refusal {
     pub fn number(self) -> u8
@@ -62,6 +62,16 @@ impl Verdict {
             Verdict::CarriedOut(_) => 0,
             Verdict::Ignored(reason) => reason.number(),
         }
+    }
+
+    // What was carried out; None is ignored.
+    pub fn kind(self) -> Option<Kind>
+        ensures { result ≡ kind_of self }
+    {
+        let Verdict::CarriedOut(kind) = self else {
+            return None;
+        };
+        Some(kind)
     }
 }
 

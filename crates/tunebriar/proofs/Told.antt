@@ -1,6 +1,6 @@
 -- A read's answer and its next place, as numbers, are what the rules tell of it.
 use Rattle.std.specs.Prelude.{Some, None, Ok, Err}
-use mathlib.Core.Path.{◌≡◌, refl, ap}
+use mathlib.Core.Path.{◌≡◌, refl, sym, ap, ◌∙◌}
 use mathlib.Core.Bool.{Bool, true, false, not}
 use mathlib.Core.List.{List}
 use Prim.Native.Nat.{ℕ, ◌≤◌}
@@ -12,8 +12,26 @@ use Rattle.rules.specs.declared.Fault.TheVariants.{CutTape, BadRecord}
 use Rattle.rules.specs.declared.Sent.{Sent}
 use Rattle.rules.specs.Tape.{sent_limit, whole, records, kind_at, good_record}
 use Rattle.rules.specs.Reading.{AtPlace, sent_at, said_at, read_at, read_told, read_of}
+use Rattle.rules.specs.declared.Meter.{Meter}
+use Rattle.rules.specs.declared.Refusal.{Refusal}
+use Rattle.rules.specs.Refusals.{number_of}
+use Rattle.rules.specs.Parts.{is_part}
+use Rattle.rules.specs.Counts.{room}
+use Rattle.rules.specs.CountEntry.{Metered, metered, count_told, count_of}
+use Rattle.lists.proofs.Choice.{by_choice}
 use Rattle.tape.proofs.Good.{good_short}
 use Rattle.tape.proofs.Said.{read_is}
+
+-- the refusals of a count, 1 and 7, have no index: their number and the meter tell them
+counted_plain : (part : ℕ) (m : Meter) (number op : ℕ) → (count_of part m number op).index ≡ 0
+unfolding count_of
+counted_plain part m number op =
+    by_choice (λ (t : Metered). t.index ≡ 0) (not (is_part part)) _ _ refl (by_choice (λ (t : Metered). t.index ≡ 0) (not (room m 1)) _ _ refl refl)
+
+pub count_refused : (part : ℕ) (m : Meter) (number op : ℕ) (z : Refusal) → count_told m (Err z) ≡ count_of part m number op → metered (number_of z) m ≡ count_of part m number op
+count_refused part m number op z e =
+    let plain = ap (λ (t : Metered). t.index) e ∙ counted_plain part m number op in
+    (λ i. record { number = number_of z; index = sym plain i; meter = m }) ∙ e
 
 -- a transaction that is read is no longer than a record holds
 read_short : (t : List ℕ) (p : ℕ) (s : Sent) → ◌≡◌ {A = AtPlace} (Ok (Some (Transaction s))) (read_at t p) → s.length ≤ sent_limit

@@ -126,6 +126,7 @@ fn replayed(kept: Kept, meter: Meter, answer: Result<Played, Refusal>) -> TbAnsw
 // Kept: their parameters stand side by side, and two entries are alike but for what they call, as the C interface has it.
 
 // The caller's meter brought up to date where it lies.
+#[tactic(auto, using(crate::proofs::Told::count_refused))]
 pub fn tb_count(part: u32, meter: &mut Meter, number: u32, op: u32) -> u32
     ensures { metered result meter.new ≡ count_of part meter.old number op }
 {

@@ -1,4 +1,4 @@
-use Rattle.std.specs.Prelude.{Result, Ok, Err}
+use Rattle.std.specs.Prelude.{Option, Result, Ok, Err}
 use Rattle.rules.specs.Verdict.{verdict_of}
 use Rattle.rules.specs.Transact.{is_high, transact_told, transact_seen, transact_of}
 use Rattle.laws.proofs.Sound.{size_some}
@@ -10,10 +10,13 @@ use Rattle.laws.proofs.Accepted.{taken}
 use Rattle.rules.specs.Transaction.{out_at, regs_after}
 use Rattle.rules.specs.Status.{kept_of}
 use Rattle.rules.specs.Parts.{part_of}
+use Rattle.rules.specs.declared.Kind.{Kind}
 use Rattle.rules.specs.declared.Served.{Served}
+use Rattle.output.specs.Rest.{shown_at}
+use Rattle.output.proofs.Rest.{shown_out}
 use Rattle.rules.specs.declared.Refusal.{Refusal}
 use Rattle.lists.specs.Places.{tabulate}
-use lib.ListN.{length, drop}
+use lib.ListN.{length, take, drop}
 use native.Mathlib.Omega.{arith}
 use Prim.Native.Nat.{ℕ}
 use mathlib.Core.List.{List, ◌++◌}
@@ -68,6 +71,8 @@ returns c =
     let r = c.from-regs in
     let o = s.out.now in
     let shown = c.show.ensures
+    ∙ ap (λ (k : Option Kind). tabulate (length (take n o)) (shown_at p r.result t.new.chip.array.now b k)) c.kind.ensures
+    ∙ shown_out p r.result t.new.chip.array.now b v (length (take n o))
     ∙ ap (λ (k : ℕ). tabulate k (out_at p r.result t.new.chip.array.now b v)) (length-take-le n o h.fits)
     ∙ ap (λ (w : List ℕ). tabulate n (out_at p r.result w b v)) t.ensures.array
     ∙ out-after p r.result s.array.now b n v
