@@ -12,7 +12,7 @@ ghost use Rattle.cells.specs.Page.{last_sent, programmed_at};
 use rules::PAGE;
 
 // ---- one value, or two in turn, at every place
-// Kept three loops, `in_turn`, `and_in` and `output::jedec`: each stores something else. Over a closure each would keep its promise and its proof, and the one beside them would have a promise for every closure.
+// Kept four loops, `in_turn`, `and_in`, `copy` and `output::jedec`: each stores something else. Over a closure each would keep its promise and its proof, and the one beside them would have a promise for every closure.
 
 // Each byte becomes v.
 // Kept over the library's `fill`: the promise is by places, as the callers' proofs take it.

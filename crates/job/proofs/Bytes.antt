@@ -34,7 +34,7 @@ same_number s job i b h =
     let z = rw (add-zero i, add-zero b) at (h 0 (omega arith)) in
     rw (z, h 1 (omega arith), h 2 (omega arith), h 3 (omega arith))
 
-same_step : (s job : List ℕ) (a : ℕ) → ((k : ℕ) → k < 16 → get_or s k 0 ≡ get_or job (a + k) 0) → decoded_at s 0 ≡ decoded_at job a
+pub same_step : (s job : List ℕ) (a : ℕ) → ((k : ℕ) → k < 16 → get_or s k 0 ≡ get_or job (a + k) 0) → decoded_at s 0 ≡ decoded_at job a
 unfolding decoded_at decoded_erase decoded_lay decoded_guard Alike
 same_step s job a h =
     let part : (i n : ℕ) → i + n ≤ 16 → Alike s job i (a + i) n = λ i n l k m. (let e : (a + i) + k ≡ a + (i + k) = omega arith in rw e (h (i + k) (omega arith))) in

@@ -15,10 +15,10 @@ fn number(bytes: [u8; 4]) -> usize
 
 // Document 01's table of steps: a byte that it does not name is 0.
 #[tactic(auto, using(lists::proofs::Choice::choices, std::proofs::lemmas::Bool::Decides::nat_tests), unfolding(rules::specs::Job::unit_by, rules::specs::Job::decoded_at, rules::specs::Job::decoded_erase, rules::specs::Job::decoded_lay, rules::specs::Job::decoded_guard, lists::specs::Places::every_in))]
-fn decoded(step: [u8; STEP_LENGTH]) -> Option<Step>
-    ensures { result ≡ decoded_at step 0 }
+fn decoded(step: &[u8; STEP_LENGTH]) -> Option<Step>
+    ensures { result ≡ decoded_at step.now 0 }
 {
-    match step {
+    match *step {
         [1, unit, 0, 0, a0, a1, a2, a3, 0, 0, 0, 0, 0, 0, 0, 0] => Some(Step::EraseAt(
             EraseUnit::try_from(unit).ok()?,
             number([a0, a1, a2, a3]),
@@ -49,8 +49,8 @@ pub fn step_at(job: &[u8], index: usize) -> Option<Step>
 {
     let left = left_at(job, STEP_LENGTH * index);
     match left.first_chunk() {
-        Some(step) => decoded(*step),
+        Some(step) => decoded(step),
         // Past the job's end a byte is 0.
-        None => decoded(array::from_fn(|k| lists::byte_at(left, k))),
+        None => decoded(&array::from_fn(|k| lists::byte_at(left, k))),
     }
 }
