@@ -1,5 +1,5 @@
 // The meter by itself, brought up to date by what a transaction answered: its number, and the first byte it was sent.
-ghost use Rattle.std.specs.Prelude.{◌≡◌};
+ghost use Rattle.std.specs.Prelude.{◌≡◌, Err};
 ghost use Rattle.rules.specs.declared.Verdict.TheVariants.{CarriedOut};
 ghost use Rattle.rules.specs.Kinds.{of_known};
 ghost use Rattle.rules.specs.Part.{command_of};
@@ -8,7 +8,7 @@ ghost use Rattle.rules.specs.Counts.{meter_after};
 ghost use Rattle.rules.specs.CountEntry.{meter_by_answer, count_told, count_of};
 ghost use Rattle.laws.specs.Room.{Room};
 
-use rules::{Kind, Meter, Refusal};
+use rules::{Kind, Meter, Refusal, Uncounted};
 
 // What a number says as a first byte: over 255 it is none, and no command.
 #[tactic(auto, using(laws::proofs::Sound::no_byte, laws::proofs::Parts::part_sound))]
@@ -45,17 +45,24 @@ fn answered(part: u32, m: Meter, number: u32, op: u32) -> Meter
     }
 }
 
+// Turned away: the meter comes back as it was.
+fn uncounted(refusal: Refusal, meter: Meter) -> Result<Meter, Uncounted>
+    ensures { result ≡ Err (record { meter = meter; refusal = refusal }) }
+{
+    Err(Uncounted { meter, refusal })
+}
+
 // By value: the entry that is lent the meter stores what this gives.
 // Kept: an answer's number and a first byte of any size, as C hands them in.
 #[tactic(auto, using(lists::proofs::Choice::choices, laws::proofs::Accepted::has_room), unfolding(rules::specs::CountEntry::count_of))]
-pub fn count(part: u32, meter: Meter, number: u32, op: u32) -> Result<Meter, Refusal>
-    ensures { count_told meter result ≡ count_of part meter number op }
+pub fn count(part: u32, meter: Meter, number: u32, op: u32) -> Result<Meter, Uncounted>
+    ensures { count_told result ≡ count_of part meter number op }
 {
     if !parts::is_part(part) {
-        return Err(Refusal::UnknownPart);
+        return uncounted(Refusal::UnknownPart, meter);
     }
     if !meter::has_room(meter, 1) {
-        return Err(Refusal::MeterFull);
+        return uncounted(Refusal::MeterFull, meter);
     }
     Ok(answered(part, meter, number, op))
 }

@@ -6,7 +6,7 @@ use mathlib.Core.List.{List}
 use Prim.Native.Nat.{ℕ}
 use denote.Ref.{Bor}
 use Rattle.rules.specs.declared.Meter.{Meter}
-use Rattle.rules.specs.declared.Refusal.{Refusal}
+use Rattle.rules.specs.declared.Uncounted.{Uncounted}
 use Rattle.rules.specs.CountEntry.{count_told, count_of}
 use Rattle.rules.specs.Reading.{AtPlace, read_told, read_of}
 use Rattle.rules.proofs.Apart.{counted_apart}
@@ -22,9 +22,9 @@ both_same v w t u x y p q = (same v t u p.0 q.0, same w x y p.1 q.1)
 
 -- ---- the meter by itself
 
-pub count_unique : (part : ℕ) (m : Meter) (number op : ℕ) (t u : Result Meter Refusal)
-    → count_told m t ≡ count_of part m number op → count_told m u ≡ count_of part m number op → t ≡ u
-count_unique part m number op t u p q = counted_apart m t u (p ∙ sym q)
+pub count_unique : (part : ℕ) (m : Meter) (number op : ℕ) (t u : Result Meter Uncounted)
+    → count_told t ≡ count_of part m number op → count_told u ≡ count_of part m number op → t ≡ u
+count_unique part m number op t u p q = counted_apart t u (p ∙ sym q)
 
 -- ---- the reader: the caller's bytes that it keeps hold of, and its place
 

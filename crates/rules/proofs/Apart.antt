@@ -19,6 +19,7 @@ use Rattle.rules.specs.declared.Reason.TheVariants.{Busy, Asleep, NoCommand, Mis
 use Rattle.rules.specs.declared.Refusal.{Refusal}
 use Rattle.rules.specs.declared.Refusal.TheVariants.{UnknownPart, ArrayLength, NotWellFormed, LongTransaction, LeftoverBits, ShortOutput, MeterFull, UnfitJob, StartSetting, StepUnsaid, StepOutside, StepBeyond, StepProtected, SmallBuffer, CutTape, BadRecord}
 use Rattle.rules.specs.declared.Served.{Served}
+use Rattle.rules.specs.declared.Uncounted.{Uncounted}
 use Rattle.rules.specs.declared.Played.{Played}
 use Rattle.rules.specs.declared.Bill.{Bill}
 use Rattle.rules.specs.declared.Record.TheVariants.{Transaction, Finish, PowerCycle}
@@ -238,16 +239,17 @@ quoted_back_lem (Err z) = ap Err (refusal_back_lem z)
 pub quoted_apart : (a b : Result Bill Refusal) → quote_told a ≡ quote_told b → a ≡ b
 quoted_apart = apart quote_told quoted_back quoted_back_lem
 
-counted_back : Metered → Result Meter Refusal
-counted_back t = if t.number =? 0 then Ok t.meter otherwise Err (refusal_back t.number t.index)
+counted_back : Metered → Result Meter Uncounted
+counted_back t = if t.number =? 0 then Ok t.meter otherwise Err (record { meter = t.meter; refusal = refusal_back t.number t.index })
 
-counted_back_lem : (m : Meter) (a : Result Meter Refusal) → counted_back (count_told m a) ≡ a
+counted_back_lem : (a : Result Meter Uncounted) → counted_back (count_told a) ≡ a
 unfolding counted_back if◌then◌otherwise◌
-counted_back_lem m (Ok after) = refl
-counted_back_lem m (Err z) = rw (ne_eqb (number_of z) 0 (some_number z)) (ap Err (refusal_back_lem z))
+counted_back_lem (Ok m) = refl
+counted_back_lem (Err u) =
+    rw (ne_eqb (number_of u.refusal) 0 (some_number u.refusal)) (λ i. Err (record { meter = u.meter; refusal = refusal_back_lem u.refusal i }))
 
-pub counted_apart : (m : Meter) (a b : Result Meter Refusal) → count_told m a ≡ count_told m b → a ≡ b
-counted_apart m = apart (count_told m) counted_back (counted_back_lem m)
+pub counted_apart : (a b : Result Meter Uncounted) → count_told a ≡ count_told b → a ≡ b
+counted_apart = apart count_told counted_back counted_back_lem
 
 -- ---- a read at place p
 

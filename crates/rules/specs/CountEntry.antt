@@ -3,7 +3,7 @@
 use Rattle.std.specs.Prelude.{ℕ, not, ◌&&◌, Result, Ok, Err}
 use Rattle.lists.specs.Choice.{if◌then◌otherwise◌, ◌=?◌, ◌≤?◌}
 use Rattle.rules.specs.declared.Meter.{Meter}
-use Rattle.rules.specs.declared.Refusal.{Refusal}
+use Rattle.rules.specs.declared.Uncounted.{Uncounted}
 use Rattle.rules.specs.declared.Verdict.TheVariants.{CarriedOut}
 use Rattle.rules.specs.Kinds.{of_known}
 use Rattle.rules.specs.Part.{Part, command_of}
@@ -29,12 +29,12 @@ pub record Metered : Type 0 where
 abbrev pub metered : (number : ℕ) (meter : Meter) → Metered
 metered number meter = record { number = number; index = 0; meter = meter }
 
--- the paper's number and values of an answer: 0 and the new meter, or a refusal, and then the meter stays
-abbrev pub count_told : (meter : Meter) → Result Meter Refusal → Metered
-count_told meter (Ok m) = metered 0 m
-count_told meter (Err z) = record { number = number_of z; index = index_of z; meter = meter }
+-- the paper's number and values of an answer: 0 and the new meter, or a refusal and the meter that comes back
+abbrev pub count_told : Result Meter Uncounted → Metered
+count_told (Ok meter) = metered 0 meter
+count_told (Err u) = record { number = number_of u.refusal; index = index_of u.refusal; meter = u.meter }
 
--- refused with 1 or 7
+-- refused with 1 or 7, and then the meter stays
 unfoldable pub count_of : (part : ℕ) (meter : Meter) (number op : ℕ) → Metered
 count_of part meter number op =
     if not (is_part part) then metered 1 meter otherwise

@@ -180,6 +180,13 @@ pub struct Served {
     pub meter: Meter,
 }
 
+// A count that is turned away: the meter as it was, and why.
+#[derive(Clone, Copy)]
+pub struct Uncounted {
+    pub meter: Meter,
+    pub refusal: Refusal,
+}
+
 #[derive(Clone, Copy)]
 pub struct Played {
     pub regs: Kept,

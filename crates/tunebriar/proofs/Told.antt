@@ -13,7 +13,7 @@ use Rattle.rules.specs.declared.Sent.{Sent}
 use Rattle.rules.specs.Tape.{sent_limit, whole, records, kind_at, good_record}
 use Rattle.rules.specs.Reading.{AtPlace, sent_at, said_at, read_at, read_told, read_of}
 use Rattle.rules.specs.declared.Meter.{Meter}
-use Rattle.rules.specs.declared.Refusal.{Refusal}
+use Rattle.rules.specs.declared.Uncounted.{Uncounted}
 use Rattle.rules.specs.Refusals.{number_of}
 use Rattle.rules.specs.Parts.{is_part}
 use Rattle.rules.specs.Counts.{room}
@@ -28,10 +28,11 @@ unfolding count_of
 counted_plain part m number op =
     by_choice (λ (t : Metered). t.index ≡ 0) (not (is_part part)) _ _ refl (by_choice (λ (t : Metered). t.index ≡ 0) (not (room m 1)) _ _ refl refl)
 
-pub count_refused : (part : ℕ) (m : Meter) (number op : ℕ) (z : Refusal) → count_told m (Err z) ≡ count_of part m number op → metered (number_of z) m ≡ count_of part m number op
-count_refused part m number op z e =
+pub count_refused : (part : ℕ) (m : Meter) (number op : ℕ) (u : Uncounted) → count_told (Err u) ≡ count_of part m number op
+    → metered (number_of u.refusal) u.meter ≡ count_of part m number op
+count_refused part m number op u e =
     let plain = ap (λ (t : Metered). t.index) e ∙ counted_plain part m number op in
-    (λ i. record { number = number_of z; index = sym plain i; meter = m }) ∙ e
+    (λ i. record { number = number_of u.refusal; index = sym plain i; meter = u.meter }) ∙ e
 
 -- a transaction that is read is no longer than a record holds
 read_short : (t : List ℕ) (p : ℕ) (s : Sent) → ◌≡◌ {A = AtPlace} (Ok (Some (Transaction s))) (read_at t p) → s.length ≤ sent_limit

@@ -135,7 +135,10 @@ pub fn tb_count(part: u32, meter: &mut Meter, number: u32, op: u32) -> u32
             *meter = counted;
             0
         }
-        Err(refusal) => u32::from(refusal.number()),
+        Err(uncounted) => {
+            *meter = uncounted.meter;
+            u32::from(uncounted.refusal.number())
+        }
     }
 }
 
