@@ -91,7 +91,7 @@ pub fn program_at(array: &mut [u8], address: usize, bytes: &[u8])
 // ---- copies
 
 // out becomes what from is.
-// Kept a loop: the library's `copy_from_slice` asks `memmove` of who links the C library, which nothing else here does.
+// Kept a loop: with the library's `copy_from_slice` the archive for C asks `memmove` of whoever links it, which nothing else here does.
 pub fn copy(out: &mut [u8], from: &[u8])
     requires { length out.old ≡ length from.now }
     ensures { out.new ≡ from.now }

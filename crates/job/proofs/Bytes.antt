@@ -50,7 +50,7 @@ same_step s job a h =
       same_number s job 12 (a + 12) (part 12 4 (omega arith)),
     )
 
--- bytes that are those from a place on of what is left of a job there
+-- .. and so do bytes that are those of what is left of a job from a place on
 pub same_left : (s job : List ℕ) (a : ℕ) → ((k : ℕ) → k < 16 → get_or s k 0 ≡ get_or (drop a job) k 0) → decoded_at s 0 ≡ decoded_at job a
 same_left s job a h = same_step s job a (λ k l. h k l ∙ get_or-drop a job k 0)
 

@@ -36,7 +36,7 @@ fn decoded(step: &[u8; STEP_LENGTH]) -> Option<Step>
 }
 
 // What is left of a job from a place on.
-fn left_at(job: &[u8], at: usize) -> &[u8]
+fn bytes_from(job: &[u8], at: usize) -> &[u8]
     ensures { result.now ≡ drop at job.now }
 {
     job.get(at..).unwrap_or(&[])
@@ -47,10 +47,10 @@ pub fn step_at(job: &[u8], index: usize) -> Option<Step>
     requires { index < number_end }
     ensures { result ≡ step_at job.now index }
 {
-    let left = left_at(job, STEP_LENGTH * index);
+    let left = bytes_from(job, STEP_LENGTH * index);
     match left.first_chunk() {
         Some(step) => decoded(step),
-        // Past the job's end a byte is 0.
+        // Fewer than sixteen are left: past the job's end a byte is 0.
         None => decoded(&array::from_fn(|k| lists::byte_at(left, k))),
     }
 }

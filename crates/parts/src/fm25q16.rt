@@ -30,6 +30,7 @@ const SEC0: [usize; 8] = [0, 65536, 131072, 262144, 524288, 1048576, 2097152, 20
 
 const SEC1: [usize; 8] = [0, 4096, 8192, 16384, 32768, 32768, 2097152, 2097152];
 
+// Kept a `Some` in each arm: with one around the match it was no longer compiled into its callers.
 #[tactic(auto, using(lists::proofs::Choice::choices, std::proofs::lemmas::Bool::Decides::nat_tests), unfolding(rules::specs::Part::row_in, rules::specs::Fm25q16::fm_commands))]
 pub fn row_of(op: u8) -> Option<Row>
     ensures { result ≡ row_in fm_commands op }

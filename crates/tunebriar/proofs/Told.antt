@@ -1,4 +1,4 @@
--- A read's answer and its next place, as numbers, are what the rules tell of it.
+-- What a read and a refused count answer, as numbers, is what the rules tell of it.
 use Rattle.std.specs.Prelude.{Some, None, Ok, Err}
 use mathlib.Core.Path.{◌≡◌, refl, sym, ap, ◌∙◌}
 use mathlib.Core.Bool.{Bool, true, false, not}
