@@ -51,6 +51,7 @@ few_index SmallBuffer h = refl
 few_index CutTape h = refl
 few_index (BadRecord i) h = absurd (omega arith)
 
+-- .. and an answer with up to 7 is told with none
 few_plain : (t : Result Meter Uncounted) → (count_told t).number ≤ 7 → (count_told t).index ≡ 0
 few_plain (Ok m) h = refl
 few_plain (Err u) h = few_index u.refusal h
